@@ -1,0 +1,4 @@
+pub mod Causes
+pub mod Link
+pub mod Host
+pub mod Memory

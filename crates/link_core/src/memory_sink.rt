@@ -1,0 +1,89 @@
+//! A sink into memory.
+ghost use Rattle.std.specs.Prelude.{◌≡◌, [], Some, OnErr};
+ghost use Rattle.link_core.specs.Causes.{HasCause};
+ghost use Rattle.link_core.specs.Link.{Takes, AppendsFront};
+
+use crate::script::{is_listed, listed_length};
+use crate::{Failed, Sink};
+use std::alloc::Global;
+
+/// A sink whose writes go into a record.
+///
+/// It tells all that it holds. Its calls answer `Failed` exactly where their number is on its list of calls to fail,
+/// where a listed write of a piece with bytes takes nothing, and where there is no memory for the record, which
+/// `starved` counts.
+#[derive(Drop)]
+pub struct MemorySink {
+    written: Vec<u8>,
+    lengths: Vec<usize>,
+    failing: Vec<u64>,
+    calls: u64,
+    writes: usize,
+    faults: u64,
+    /// How often there was no memory for what a write gave.
+    pub starved: u64,
+}
+
+impl MemorySink {
+    /// An empty sink. Its n-th write takes at most the n-th of the lengths, past the list's end all. The calls of the
+    /// listed numbers, from 0, fail.
+    pub fn new(alloc: Global, lengths: Vec<usize>, failing: Vec<u64>) -> Self
+        ensures start { (result.written.items ≡ []) × (result.faults ≡ 0) × (result.calls ≡ 0) × (result.writes ≡ 0) }
+        ensures listed { (result.lengths ≡ lengths) × (result.failing ≡ failing) }
+    {
+        MemorySink {
+            written: Vec::new(alloc),
+            lengths,
+            failing,
+            calls: 0,
+            writes: 0,
+            faults: 0,
+            starved: 0,
+        }
+    }
+
+    /// What was written so far.
+    pub fn written(&self) -> &[u8]
+        ensures { result.now ≡ self.now.written.items }
+    {
+        &self.written
+    }
+
+    /// How often a call has failed, for whatever cause.
+    pub fn faults(&self) -> u64
+        ensures { result ≡ self.now.faults }
+    {
+        self.faults
+    }
+}
+
+impl Sink for MemorySink {
+    ghost use Rattle.link_core.specs.Memory.{SinkFails};
+
+    ghost written = { λ s. Some s.written.items };
+
+    ghost faults = { λ s. s.faults };
+
+    fn write(&mut self, piece: &[u8]) -> Result<usize, Failed>
+        ensures bound { Takes piece.now result }
+        ensures written { AppendsFront (Some self.old.written.items) (Some self.new.written.items) piece.now result }
+        ensures cause { HasCause self.old.faults self.new.faults result }
+
+        ensures listed { OnErr result (SinkFails self.old self.new piece.now) }
+    {
+        let listed = is_listed(&self.failing, self.calls);
+        self.calls = self.calls.saturating_add(1);
+        let count = listed_length(&self.lengths, self.writes, piece.len());
+        self.writes = self.writes.saturating_add(1);
+        if listed || (count == 0 && !piece.is_empty()) {
+            self.faults = self.faults.saturating_add(1);
+            return Err(Failed);
+        }
+        if self.written.extend_from_slice(&piece[..count]).is_err() {
+            self.starved = self.starved.saturating_add(1);
+            self.faults = self.faults.saturating_add(1);
+            return Err(Failed);
+        }
+        Ok(count)
+    }
+}
