@@ -1,0 +1,5 @@
+pub mod Soundness
+pub mod Ascending
+pub mod Entries
+pub mod Lists
+pub mod Found

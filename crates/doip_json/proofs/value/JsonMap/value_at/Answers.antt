@@ -1,0 +1,5 @@
+use Rattle.doip_json.proofs.Entries.{value_read}
+use Rattle.doip_json.proofs.value.JsonMap.value_at.Goals as goal
+
+pub returns : goal.returns
+returns c = rw (← c.self.view_is) (value_read c.self.inside.entries.items c.args.i c.index.result.now (rw c.self.view_is c.requires) c.index.ensures)

@@ -1,0 +1,9 @@
+pub mod Value
+pub mod Stored
+pub mod Meaning
+pub mod Sound
+pub mod Falls
+pub mod Places
+pub mod Look
+pub mod Text
+pub mod Read

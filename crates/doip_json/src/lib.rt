@@ -1,0 +1,28 @@
+//! JSON values of whole numbers, and their text (RFC 8259).
+//!
+//! A [`Json`] is null, a truth value, a whole number of 64 bits, a text, a list or a table. A contract
+//! sees it as its meaning, `value_of json`, which is plain data of `specs/Value.antt`: a [`Str`] is the
+//! list of its UTF-8 bytes there, a [`JsonList`] a list, and a [`JsonMap`] a list of keys and values
+//! that ascends by the keys' bytes. A [`Num`] is its number, and [`Bytes`] are a list.
+//!
+//! Read [`read`] first. It refuses a text that isn't JSON, that nests deeper than asked, or that has a
+//! number which isn't whole, in this order. [`text`] writes the one canonical text of a value.
+//!
+//! Not promised: which of two equal keys in a text counts, and what `-0` is; there it goes by the
+//! definition of reading of `serde_json`. Reading, writing, copying, comparing and dropping recurse as
+//! deep as the value nests, and a value built by hand may nest deeper than any text.
+#![tactic(auto)]
+
+mod leaf;
+mod look;
+mod reading;
+mod same;
+mod value;
+mod writing;
+
+pub use leaf::{Bytes, Num, Str};
+pub use look::get;
+pub use reading::{JsonFault, read};
+pub use same::{copy, is_same};
+pub use value::{Json, JsonList, JsonMap};
+pub use writing::text;
