@@ -1,0 +1,4 @@
+pub mod PlaceLemmas
+pub mod ClassLemmas
+pub mod RunLemmas
+pub mod FitLemmas

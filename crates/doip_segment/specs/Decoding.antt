@@ -1,0 +1,54 @@
+-- What contracts see of a decoder.
+use Rattle.std.specs.Prelude.{◌≡◌, ℕ, ◌+◌, ◌≤◌, ◌<◌, List, [], length, Bool, true, false, IsTrue}
+use Rattle.doip_segment.specs.declared.outcome.Limits.{Limits}
+use Rattle.doip_segment.specs.declared.outcome.Reason.{Reason}
+use Rattle.doip_segment.specs.declared.phase.Phase.{Phase}
+use Rattle.doip_segment.specs.declared.phase.Phase.TheVariants.{Due, Text, LineStart, JsonEnd, BytesStart, ChunkDue, Digits, Padding, Data, DataEnd, BytesEnd, MessageEnd, Whole, Stuck}
+use Rattle.doip_segment.specs.Segments.{Segment, Held}
+use Rattle.doip_segment.specs.Machine.{Reading, start, run, IsInRange}
+
+-- a decoder: its limits, what it has read since the last message, and how many bytes it took, or 2^64 - 1 where there were more
+pub record Decoding : Type 0 where
+  pub limits : Limits
+  pub reading : Reading
+  pub taken : ℕ
+
+-- the bytes were taken since the decoder's last message, and no others
+abbrev pub Took : Decoding → List ℕ → Type 0
+Took d bytes = (d.reading ≡ run d.limits start bytes) × (d.reading.count ≡ length bytes)
+
+-- a message stands
+abbrev pub IsStanding : Decoding → Type 0
+IsStanding d = d.reading.phase ≡ Whole
+
+-- a fault stands, for this reason
+abbrev pub IsStuck : Decoding → Reason → Type 0
+IsStuck d reason = d.reading.phase ≡ Stuck reason
+
+-- the line feed that waits for the byte after it
+abbrev pub held_back : Phase → ℕ
+held_back LineStart = 1
+held_back _ = 0
+
+-- the segment that is being read
+abbrev pub opened : Phase → ℕ
+opened Due = 0
+opened MessageEnd = 0
+opened Whole = 0
+opened (Stuck reason) = 0
+opened _ = 1
+
+-- one more byte is counted where a fault stands
+abbrev pub passed : Phase → ℕ
+passed (Stuck reason) = 1
+passed _ = 0
+
+-- the decoder's buffers hold whatever its limits let in
+pub record Fits (limits : Limits) (held : Held) (phase : Phase) (taken : ℕ) : Type 0 where
+  pub total : limits.total ≤ 67108864
+  pub capacity : limits.total ≤ held.capacity
+  pub slots : 2048 ≤ held.slots
+  pub used : held.used + held_back phase ≤ taken
+  pub count : taken ≤ limits.total + passed phase
+  pub segments : length held.segments + opened phase ≤ 2048
+  pub range : IsInRange phase

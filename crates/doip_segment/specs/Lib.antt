@@ -1,0 +1,4 @@
+pub mod Segments
+pub mod Place
+pub mod Machine
+pub mod Decoding

@@ -1,0 +1,14 @@
+//! Messages as bytes.
+#![tactic(auto)]
+
+mod class;
+mod decoder;
+mod kind;
+mod message;
+mod outcome;
+mod phase;
+
+pub use decoder::Decoder;
+pub use kind::Kind;
+pub use message::Message;
+pub use outcome::{End, Limits, Reason, Step};
