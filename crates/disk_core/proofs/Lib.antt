@@ -1,0 +1,2 @@
+mod PastLemmas
+mod Lists

@@ -1,0 +1,20 @@
+-- What a disk in memory shows.
+use Rattle.std.specs.Prelude.{ℕ, ◌+◌, List, length, Option, Some, None, if◌then◌else◌, ◌==◌}
+use Rattle.disk_core.specs.Past.{IsLeftAt}
+use Rattle.disk_core.specs.declared.memory.MemoryDisk.{MemoryDisk}
+
+-- the file, as long as its record found memory at every call
+abbrev pub content_of : MemoryDisk → Option (List ℕ)
+content_of disk = if disk.starved == 0 then Some disk.file.items else None
+
+-- the number of calls
+abbrev pub clock_of : MemoryDisk → ℕ
+clock_of disk = length disk.log.calls.items
+
+-- the images after the first calls of the record
+abbrev pub left_by : MemoryDisk → ℕ → List ℕ → Type 0
+left_by disk moment image = IsLeftAt disk.start.items disk.log.calls.items moment image
+
+-- the calls that were listed, and those that found no memory
+abbrev pub faults_of : MemoryDisk → ℕ
+faults_of disk = disk.log.failed + disk.starved

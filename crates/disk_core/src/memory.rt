@@ -1,0 +1,149 @@
+//! A disk in memory. It keeps a record of its calls, so a stop may leave all that the disk model allows.
+ghost use Rattle.std.specs.Prelude.{◌≡◌, ◌≢◌, ◌==◌, ◌+◌, ◌<◌, ◌≤◌, ◌^◌, ◌∷◌, ◌++◌, [], true, if◌then◌else◌, Some, None, length, reverse, take, drop, IfOk, OnOk, OnErr};
+ghost use Rattle.disk_core.specs.Disk.{written, Same, Passes, IsSettled, HasCause};
+ghost use Rattle.disk_core.specs.Past.{file_after};
+
+use crate::record::Log;
+use crate::{Disk, DiskCall, Failed, Failing};
+use std::alloc::{AllocError, Global};
+
+/// A disk in memory. It tells its content as long as it found memory for its record at every call.
+///
+/// A call that its list names answers `Failed` and does nothing, though a stop may tear a write that failed. Where there
+/// is no memory for the record the call answers `Failed` too, and `starved` rises.
+#[derive(Drop)]
+pub struct MemoryDisk {
+    start: Vec<u8>,
+    file: Vec<u8>,
+    log: Log,
+    /// How often the record found no memory. It is a part of the count of faults.
+    pub starved: u64,
+    ghost reads: { starved ≡ 0 → file.items ≡ file_after start.items (reverse log.calls.items) },
+}
+
+impl MemoryDisk {
+    ghost use Rattle.std.specs.Option.{ForSome};
+    ghost use Rattle.disk_core.specs.Memory.{content_of, clock_of, left_by, faults_of};
+
+    /// A disk with this file, all of it lasting, that fails the listed calls.
+    pub fn new(
+        alloc: Global,
+        contents: &[u8],
+        failing: &[Failing],
+    ) -> Result<MemoryDisk, AllocError>
+        ensures told { IfOk result (λ disk. content_of disk ≡ Some contents.now) }
+        ensures settled { IfOk result (λ disk. IsSettled (content_of disk) (left_by disk (clock_of disk))) }
+        ensures faults { IfOk result (λ disk. faults_of disk ≡ 0) }
+    {
+        let start = contents.to_vec(alloc)?;
+        let file = contents.to_vec(alloc)?;
+        let failing = failing.to_vec(alloc)?;
+        Ok(MemoryDisk {
+            start,
+            file,
+            log: Log {
+                alloc,
+                calls: Vec::new(alloc),
+                failing,
+                failed: 0,
+            },
+            starved: 0,
+        })
+    }
+
+    // A call that doesn't change the file.
+    fn pass(&mut self, call: DiskCall, place: u64) -> Result<(), Failed>
+        requires { call ≢ DiskCall.WriteAt }
+        ensures ok { OnOk result ((self.new.starved ≡ self.old.starved) × (self.new.log.calls.items ≡ self.old.log.calls.items ++ (record { call = call; done = true; place = place; bytes = [] }) ∷ [])) }
+        ensures file { self.new.file ≡ self.old.file }
+        ensures start { self.new.start ≡ self.old.start }
+        ensures told { ForSome (content_of self.new) (λ file. content_of self.old ≡ Some file) }
+        ensures clock { clock_of self.old ≤ clock_of self.new }
+        ensures stop { ForSome (content_of self.new) (λ _. Passes (clock_of self.old) (clock_of self.new) (left_by self.old) (left_by self.new) Same) }
+        ensures cause { HasCause (faults_of self.old) (faults_of self.new) result }
+    {
+        match self.log.enter(call, place, &[]) {
+            Ok(true) => Ok(()),
+            Ok(false) => Err(Failed),
+            Err(_) => {
+                self.starved = self.starved.saturating_add(1);
+                Err(Failed)
+            }
+        }
+    }
+}
+
+// Puts a piece into a file. What lies between its old end and the place is filled with zeros.
+fn overwrite(file: &mut Vec<u8>, place: usize, piece: &[u8]) -> Result<(), AllocError>
+    requires { place + length piece.now < 2 ^ 62 }
+    ensures written { OnOk result (file.new.items ≡ written place piece.now file.old.items) }
+    ensures unchanged { OnErr result (file.new.items ≡ file.old.items) }
+{
+    let size = file.len().max(place + piece.len());
+    file.resize(size, 0)?;
+    put(file, place, piece);
+    Ok(())
+}
+
+// Puts a piece over what is there.
+fn put(file: &mut [u8], place: usize, piece: &[u8])
+    requires { place + length piece.now ≤ length file.old }
+    ensures { file.new ≡ take place file.old ++ (piece.now ++ drop (place + length piece.now) file.old) }
+{
+    file[place..place + piece.len()].copy_from_slice(piece);
+}
+
+impl Disk for MemoryDisk {
+    ghost use Rattle.std.specs.Prelude.{ℕ, List};
+    ghost use Rattle.std.proofs.Common.{subst};
+    ghost use Rattle.disk_core.specs.Memory.{content_of, clock_of, left_by, faults_of};
+    ghost use Rattle.disk_core.specs.Past.{IsLeftAt};
+    ghost use Rattle.disk_core.specs.PastLaws.{memory_reads};
+
+    ghost content = { content_of };
+
+    ghost moment = { clock_of };
+
+    ghost left_at = { left_by };
+
+    ghost faults = { faults_of };
+
+    ghost reads_as_image = { λ disk file is. memory_reads disk.starved disk.start.items disk.log.calls.items disk.file.items file disk.reads is };
+
+    fn length(&mut self) -> Result<u64, Failed> {
+        self.pass(DiskCall::Length, 0)?;
+        Ok(self.file.len() as u64)
+    }
+
+    fn read_at(&mut self, place: u64, into: &mut [u8]) -> Result<usize, Failed> {
+        self.pass(DiskCall::ReadAt, place)?;
+        let size = self.file.len();
+        if place >= size as u64 {
+            return Ok(0);
+        }
+        let rest = &self.file[place as usize..];
+        let count = rest.len().min(into.len());
+        into[..count].copy_from_slice(&rest[..count]);
+        Ok(count)
+    }
+
+    fn write_at(&mut self, place: u64, piece: &[u8]) -> Result<(), Failed> {
+        match self.log.enter(DiskCall::WriteAt, place, piece) {
+            Ok(true) => {}
+            Ok(false) => return Err(Failed),
+            Err(_) => {
+                self.starved = self.starved.saturating_add(1);
+                return Err(Failed);
+            }
+        }
+        if overwrite(&mut self.file, place as usize, piece).is_err() {
+            self.starved = self.starved.saturating_add(1);
+            return Err(Failed);
+        }
+        Ok(())
+    }
+
+    fn sync(&mut self) -> Result<(), Failed> {
+        self.pass(DiskCall::Sync, 0)
+    }
+}

@@ -1,0 +1,77 @@
+//! What a disk in memory writes down: each call, and whether it was done.
+ghost use Rattle.std.specs.Prelude.{◌≡◌, ◌^◌, ◌+◌, ◌-◌, ◌≤◌, min, true, false, IsTrue, IfOk, OnErr, ◌∷◌, ◌++◌, []};
+ghost use Rattle.disk_core.specs.Disk.{Rose};
+
+use crate::Bytes;
+use std::alloc::{AllocError, Global};
+
+/// The kinds of call of a disk.
+#[derive(Clone, Copy, Debug, PartialEq, Eq)]
+pub enum DiskCall {
+    Length,
+    ReadAt,
+    WriteAt,
+    Sync,
+}
+
+/// The `nth` call of its kind, from 1, is to fail.
+#[derive(Clone, Copy, Debug, PartialEq, Eq)]
+pub struct Failing {
+    pub call: DiskCall,
+    pub nth: u64,
+}
+
+/// A call of a disk. A write has its piece, and a call that has no place has 0.
+#[derive(Debug, Drop)]
+pub struct Noted {
+    pub call: DiskCall,
+    pub done: bool,
+    pub place: u64,
+    pub bytes: Bytes,
+}
+
+// The record of a disk, and the calls that it is to fail.
+#[derive(Drop)]
+pub(crate) struct Log {
+    pub(crate) alloc: Global,
+    pub(crate) calls: Vec<Noted>,
+    pub(crate) failing: Vec<Failing>,
+    pub(crate) failed: u64,
+}
+
+impl Log {
+    // Writes a call down, and answers whether it is to be done. One that isn't is counted.
+    pub(crate) fn enter(
+        &mut self,
+        call: DiskCall,
+        place: u64,
+        bytes: &[u8],
+    ) -> Result<bool, AllocError>
+        ensures noted { IfOk result (λ done. self.new.calls.items ≡ self.old.calls.items ++ (record { call = call; done = done; place = place; bytes = bytes.now }) ∷ []) }
+        ensures done { IfOk result (λ done. done ≡ true → self.new.failed ≡ self.old.failed) }
+        ensures listed { IfOk result (λ done. done ≡ false → Rose self.old.failed self.new.failed) }
+        ensures count { self.old.failed ≤ self.new.failed }
+        ensures err { OnErr result ((self.new.failed ≡ self.old.failed) × (self.new.calls.items ≡ self.old.calls.items)) }
+    {
+        let done = !is_listed(&self.failing, &self.calls, call);
+        let bytes = Bytes::of(self.alloc, bytes)?;
+        self.calls.push(Noted {
+            call,
+            done,
+            place,
+            bytes,
+        })?;
+        if !done {
+            self.failed = self.failed.saturating_add(1);
+        }
+        Ok(done)
+    }
+}
+
+// Whether the next call of this kind is on the list.
+fn is_listed(failing: &[Failing], calls: &[Noted], call: DiskCall) -> bool {
+    let before = calls.iter().filter(|noted| noted.call == call).count() as u64;
+    failing.iter().any(|listed| listed.call == call
+        && listed.nth > before
+        && listed.nth - before == 1)
+}
