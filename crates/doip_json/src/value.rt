@@ -1,5 +1,5 @@
 //! A JSON value, its lists and its tables.
-ghost use Rattle.std.specs.Prelude.{◌≡◌, ◌<◌, [], ◌∷◌, ◌++◌, length, slice_get, OnOk, OnErr, IfOk, IfErr, Some, map};
+ghost use Rattle.std.specs.Prelude.{◌≡◌, ◌≢◌, ◌<◌, List, ℕ, [], ◌∷◌, ◌++◌, length, slice_get, OnOk, OnErr, IfOk, IfErr, IsSome, IsNone, Some, map, option_map};
 ghost use Rattle.std.specs.Ordering.{nat_cmp};
 ghost use Rattle.std.specs.Cmp.Lexicographic.{slice_cmp};
 ghost use Rattle.std.specs.BTreeMap.{insert_entry};
@@ -11,6 +11,7 @@ use crate::leaf::{Num, Str};
 use std::alloc::{AllocError, Global};
 use std::cmp::Ordering;
 use std::marker::Model;
+use std::mem;
 
 /// A JSON value.
 #[cycle(json)]
@@ -151,6 +152,8 @@ impl JsonList {
 
 impl JsonMap {
     ghost use Rattle.doip_json.specs.Meaning.{value_of, pairs_of};
+    ghost use Rattle.doip_json.specs.Value.{entries_from, null};
+    ghost use Rattle.doip_json.specs.Look.{entry_of};
 
     /// A table with no entries, which takes no memory.
     pub fn empty(alloc: Global) -> JsonMap
@@ -194,6 +197,21 @@ impl JsonMap {
         value.recall();
         self.entries.push((key, value))?;
         Ok(())
+    }
+
+    /// Takes the value at the key, with no copy, and leaves null in its place. `None` exactly where the table lacks the
+    /// key, and then it stays as it was.
+    pub fn take(&mut self, key: &str) -> Option<Json>
+        ensures value { option_map value_of result ≡ entry_of key.now (entries_from self.old) }
+        ensures some { IsSome result → self.new ≡ insert_entry (slice_cmp nat_cmp) self.old key.now null }
+        ensures none { IsNone result → self.new ≡ self.old }
+        ensures others { (other : List ℕ) → other ≢ key.now →
+            entry_of other (entries_from self.new) ≡ entry_of other (entries_from self.old) }
+    {
+        match self.place_of(key) {
+            Ok(at) => Some(mem::replace(&mut self.entries[at].1, Json::Null)),
+            Err(_) => None,
+        }
     }
 
     pub fn len(&self) -> usize
