@@ -1,6 +1,7 @@
 -- What many bytes do at once.
 use Rattle.std.proofs.Common.{◌≡◌, ℕ, zero, suc, ◌+◌, ◌-◌, ◌≤◌, ◌<◌, List, [], ◌∷◌, ◌++◌, length, take, drop, Bool, true, false, Option, Some, None, refl, sym, ap, ◌∙◌, subst, arith, append_assoc, length-append, eqb, leb, ltb, get_or, eq-eqb}
 use Rattle.std.proofs.lemmas.List.{append-nil, get_or-take, take_more, length-take-le}
+use Rattle.std.proofs.Math.Seq.{take-add}
 use Rattle.std.proofs.lemmas.Bool.{lt-leb, le-ltb, leb-false, ltb-false}
 use Rattle.doip_segment.specs.declared.class.Class.{Class}
 use Rattle.doip_segment.specs.declared.class.Class.TheVariants.{LineFeed, Blank, Hash, At, Digit, Other}
@@ -56,7 +57,7 @@ run-line limits segments pending count xs none room fits =
     let low : count + length xs < limits.total = omega arith in
     let small : length (pending ++ xs) ≤ limits.json = omega (arith, size) in
     let last : run limits (reading_of segments (pending ++ xs) Text (count + length xs)) (10 ∷ []) ≡ reading_of segments ((pending ++ xs) ++ []) LineStart (count + length xs + 1) =
-      rw (lt-leb limits.total (count + length xs) low, le-ltb limits.json (length (pending ++ xs)) small) refl in
+    rw (lt-leb limits.total (count + length xs) low, le-ltb limits.json (length (pending ++ xs)) small) refl in
     run-append limits (reading_of segments pending Text count) xs (10 ∷ [])
     ∙ ap (λ r. run limits r (10 ∷ [])) text
     ∙ last
@@ -95,10 +96,10 @@ no_feed (suc n) (x ∷ xs) none = (none 0 (omega arith) (omega arith), no_feed n
 seen_before : (rest : List ℕ) (window stop : ℕ) → stop ≤ window → ((k : ℕ) → 0 ≤ k → k < stop → eqb (get_or (take window rest) k 0) 10 ≡ true → ⊥) → NoLineFeed (take stop rest)
 seen_before rest window stop le none =
     no_feed stop rest (λ k low within is.
-      none k (omega arith) low (
-        let same : get_or (take window rest) k 0 ≡ get_or rest k 0 = get_or-take window rest k 0 (omega arith) in
-        eq-eqb (get_or (take window rest) k 0) 10 (same ∙ is)
-      )
+    none k (omega arith) low (
+    let same : get_or (take window rest) k 0 ≡ get_or rest k 0 = get_or-take window rest k 0 (omega arith) in
+    eq-eqb (get_or (take window rest) k 0) 10 (same ∙ is)
+    )
     )
 
 -- text up to the end of its line
@@ -129,3 +130,12 @@ data_goes limits r rest window left phase low within fits room =
     let size : length (take window rest) ≡ window = length-take-le window rest fits in
     let data_ = run-data limits r.segments r.pending r.count left (take window rest) (omega (arith, size)) (omega (arith, size)) in
     sym (ap (λ p. run limits (reading_of r.segments r.pending p r.count) (take window rest)) (phase ∙ due_left left low) ∙ data_ ∙ ap (λ n. reading_of r.segments (r.pending ++ take window rest) (data_due (left - n)) (r.count + n)) size)
+
+-- one run after another, over the parts of a piece
+pub run_on : (limits : Limits) (r s t : Reading) (n m : ℕ) (piece rest : List ℕ) → n ≤ length piece → s ≡ run limits r (take n piece) → rest ≡ drop n piece → t ≡ run limits s (take m rest) → t ≡ run limits r (take (n + m) piece)
+run_on limits r s t n m piece rest within first cut second =
+    second
+    ∙ ap (λ xs. run limits s (take m xs)) cut
+    ∙ ap (λ x. run limits x (take m (drop n piece))) first
+    ∙ sym (run-append limits r (take n piece) (take m (drop n piece)))
+    ∙ ap (run limits r) (sym (take-add n m piece))

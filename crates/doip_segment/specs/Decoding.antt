@@ -2,6 +2,10 @@
 use Rattle.std.specs.Prelude.{◌≡◌, ℕ, ◌+◌, ◌≤◌, ◌<◌, List, [], length, Bool, true, false, IsTrue}
 use Rattle.doip_segment.specs.declared.outcome.Limits.{Limits}
 use Rattle.doip_segment.specs.declared.outcome.Reason.{Reason}
+use Rattle.doip_segment.specs.declared.outcome.End.{End}
+use Rattle.doip_segment.specs.declared.outcome.End.TheVariants as ends
+use Rattle.doip_segment.specs.declared.outcome.Step.{Step}
+use Rattle.doip_segment.specs.declared.outcome.Step.TheVariants as steps
 use Rattle.doip_segment.specs.declared.phase.Phase.{Phase}
 use Rattle.doip_segment.specs.declared.phase.Phase.TheVariants.{Due, Text, LineStart, JsonEnd, BytesStart, ChunkDue, Digits, Padding, Data, DataEnd, BytesEnd, MessageEnd, Whole, Stuck}
 use Rattle.doip_segment.specs.Segments.{Segment, Held}
@@ -52,3 +56,15 @@ pub record Fits (limits : Limits) (held : Held) (phase : Phase) (taken : ℕ) : 
   pub count : taken ≤ limits.total + passed phase
   pub segments : length held.segments + opened phase ≤ 2048
   pub range : IsInRange phase
+
+-- what stands, as an answer
+abbrev pub outcome_of : Phase → ℕ → Step
+outcome_of Whole taken = steps.Message
+outcome_of (Stuck reason) taken = steps.Fault taken reason
+outcome_of _ taken = steps.More
+
+-- where the session ends if no byte more comes
+abbrev pub end_of : Phase → List Segment → ℕ → End
+end_of Whole segments taken = ends.Between
+end_of Due [] taken = ends.Between
+end_of _ segments taken = ends.Inside taken

@@ -2,7 +2,7 @@
 
 ghost use Rattle.std.specs.Prelude.{◌≡◌, ◌≢◌, ◌+◌, ◌-◌, ◌≤◌, ◌<◌, ◌^◌, ◌↔◌, ◌||◌, min, [], ◌∷◌, ◌++◌, length, take, true, false, IsTrue, IsSome, IfOk, Some, None};
 ghost use Rattle.doip_segment.specs.Machine.{class_of, passes_json, begins, closed, added, kept, limit_fault, is_done, start, run, advanced};
-ghost use Rattle.doip_segment.specs.Decoding.{IsStanding, Took};
+ghost use Rattle.doip_segment.specs.Decoding.{IsStanding, outcome_of, end_of};
 
 use crate::class::{Class, classify};
 use crate::kind::Kind;
@@ -35,14 +35,14 @@ impl Model for Decoder {
     ghost Value = { Decoding };
 
     ghost view = { λ d. record {
-        limits = d.limits;
-        reading = record {
-            segments = d.message.segments;
-            pending = d.message.pending;
-            phase = d.phase;
-            count = d.count
-        };
-        taken = d.taken
+      limits = d.limits;
+      reading = record {
+        segments = d.message.segments;
+        pending = d.message.pending;
+        phase = d.phase;
+        count = d.count;
+      };
+      taken = d.taken;
     } };
 
     ghost invariant = { λ d. Fits d.limits d.message d.phase d.count };
@@ -239,7 +239,9 @@ impl Decoder {
     }
 
     /// What stands.
-    fn outcome(&self) -> Step {
+    fn outcome(&self) -> Step
+        ensures { result ≡ outcome_of self.now.reading.phase self.now.taken }
+    {
         match self.phase {
             Phase::Whole => Step::Message,
             Phase::Stuck { reason } => Step::Fault {
@@ -255,8 +257,14 @@ impl Decoder {
     /// with that fault. It takes no memory, and looks at each byte once.
     pub fn feed(&mut self, piece: &[u8]) -> (usize, Step)
         ensures within { result.0 ≤ length piece.now }
+        ensures more { result.1 ≡ Step.More → result.0 ≡ length piece.now }
+        ensures outcome { result.1 ≡ outcome_of self.new.reading.phase self.new.taken }
+
         ensures limits { self.new.limits ≡ self.old.limits }
+        ensures reading { self.new.reading ≡ run self.old.limits self.old.reading (take result.0 piece.now) }
+        ensures taken { self.new.taken ≡ min (self.old.taken + result.0) (2 ^ 64 - 1) }
     {
+        let _ = &self.taken;
         let mut used = 0;
         while used < piece.len() && !self.is_done() {
             used += self.take_some(&piece[used..]);
@@ -318,7 +326,9 @@ impl Decoder {
     }
 
     /// Where the session stands if no byte more comes.
-    pub fn finish(&self) -> End {
+    pub fn finish(&self) -> End
+        ensures { result ≡ end_of self.now.reading.phase self.now.reading.segments self.now.taken }
+    {
         match self.phase {
             Phase::Whole => End::Between,
             Phase::Due if self.message.count() == 0 => End::Between,

@@ -32,11 +32,11 @@ impl Model for Message {
     ghost Value = { Held };
 
     ghost view = { λ m. record {
-        segments = segments_in m.contents.items m.extents.items;
-        pending = drop m.start m.contents.items;
-        used = vec_len m.contents;
-        capacity = vec_capacity m.contents;
-        slots = vec_capacity m.extents
+      segments = segments_in m.contents.items m.extents.items;
+      pending = drop m.start m.contents.items;
+      used = vec_len m.contents;
+      capacity = vec_capacity m.contents;
+      slots = vec_capacity m.extents;
     } };
 
     ghost invariant = { λ m. (m.start ≤ length m.contents.items) × AreWithin m.start m.extents.items };

@@ -21,14 +21,14 @@ returns-clause-reading c =
     let json : length old.message.pending + window ≤ old.limits.json + 1 = omega (arith, c.min-window.ensures, c.min.ensures, c.saturating_sub-text.ensures, c.pending.ensures, c.if-window-eq0.false) in
     let size = length-take-le window rest fits in
     elim c.match-memchr.branch [
-      in-Some w ↦ (
-        let found = w.in-Some.ensures in
-        let low : w.in-Some.end < window = omega (arith, found.0.high, size) in
-        let ends = text_ends old.limits reading rest window w.in-Some.end phase low fits found.0.before found.1 room json in
-        rw (w.self-inside-is, w.line-is, w.append.ensures.segments, w.append.ensures.pending, ← c.self.view_is) ends
-      )
+      | in-Some w ↦ (
+          let found = w.in-Some.ensures in
+          let low : w.in-Some.end < window = omega (arith, found.0.high, size) in
+          let ends = text_ends old.limits reading rest window w.in-Some.end phase low fits found.0.before found.1 room json in
+          rw (w.self-inside-is, w.line-is, w.append.ensures.segments, w.append.ensures.pending, ← c.self.view_is) ends
+          )
       | in-None w ↦ (
-        let goes = ap (λ p. reading_of old.message.segments (old.message.pending ++ take window rest) p (old.count + window)) phase ∙ text_goes old.limits reading rest window phase fits w.in-None.ensures room json in
-        rw (w.self-inside-is, w.line-is, w.append-in-None.ensures.segments, w.append-in-None.ensures.pending, ← c.self.view_is) goes
-      )
+          let goes = ap (λ p. reading_of old.message.segments (old.message.pending ++ take window rest) p (old.count + window)) phase ∙ text_goes old.limits reading rest window phase fits w.in-None.ensures room json in
+          rw (w.self-inside-is, w.line-is, w.append-in-None.ensures.segments, w.append-in-None.ensures.pending, ← c.self.view_is) goes
+          )
     ]

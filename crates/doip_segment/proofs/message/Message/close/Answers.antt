@@ -1,4 +1,4 @@
-use Rattle.std.proofs.Common.{◌<◌, ◌≤◌, ◌≡◌, length, drop, []  , ◌∷◌, ◌++◌, ap, sym, ◌∙◌, subst, arith, refl}
+use Rattle.std.proofs.Common.{◌<◌, ◌≤◌, ◌≡◌, length, drop, [], ◌∷◌, ◌++◌, ap, sym, ◌∙◌, subst, arith, refl}
 use Rattle.std.specs.Prelude.{vec_len, vec_capacity}
 use Rattle.doip_segment.specs.Segments.{segment}
 use Rattle.doip_segment.specs.Place.{segments_in, AreWithin}
