@@ -1,0 +1,8 @@
+use Rattle.std.proofs.Common.{ℕ}
+use Rattle.session_core.proofs.Flow.{held_fed}
+use Rattle.session_core.proofs.reader.Reader.feed_held.Goals as goal
+
+pub returns-clause-fed : goal.returns-clause-fed
+returns-clause-fed c =
+    held_fed c.self.inside.start c.self.inside.end c.feed-fed.result.0 c.self.inside.buffer.items c.deref.result.now c.args.self.now c.args.decoder.now c.feed-fed.new.self
+    c.deref.ensures.value c.self.view_is c.self.invariant.1 c.feed-fed.ensures.within c.feed-fed.ensures.limits c.feed-fed.ensures.reading c.feed-fed.ensures.taken

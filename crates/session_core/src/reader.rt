@@ -1,0 +1,151 @@
+//! The messages of a link.
+ghost use Rattle.std.specs.Prelude.{◌≡◌, ◌≤◌, ◌<◌, ◌⊎◌, [], length, IfOk, OnErr, Ok};
+ghost use Rattle.std.specs.Io.KnownBytes.{Keeps, Appends, Consumes, IsAtEnd};
+ghost use Rattle.link_core.specs.Causes.{HasCause, Rose};
+ghost use Rattle.link_core.specs.Link.{Spends};
+ghost use Rattle.doip_segment.specs.Decoding.{outcome_of, end_of};
+ghost use Rattle.session_core.specs.Reading.{MatchesEnd};
+
+use doip_segment::{Decoder, End, Reason, Step};
+use link_core::{Failed, Link};
+use std::alloc::{AllocError, Global};
+use std::marker::Model;
+
+/// How many bytes a read may give.
+const ROOM: usize = 65_536;
+
+/// What a link's next bytes are.
+#[derive(Clone, Copy, Debug, PartialEq, Eq)]
+pub enum Next {
+    /// A message, which stands in the decoder.
+    Message,
+    /// The link's end, between messages.
+    Ended,
+    /// The link's end inside a message, behind so many bytes of the session.
+    Cut { place: u64 },
+    /// Bytes that frame no message, up to and with the one at this place of the session.
+    Framing { place: u64, reason: Reason },
+    /// A read of the link failed.
+    ReadFault,
+}
+
+/// The bytes that were read from a link and not yet fed to a decoder, seen as their list, in a buffer that is kept.
+#[derive(Drop)]
+pub struct Reader {
+    buffer: Vec<u8>,
+    start: usize,
+    end: usize,
+}
+
+impl Model for Reader {
+    ghost use Rattle.std.specs.Prelude.{List, ℕ, ◌≡◌, ◌≤◌, ◌-◌, take, drop, vec_len};
+
+    ghost Value = { List ℕ };
+
+    ghost view = { λ r. take (r.end - r.start) (drop r.start r.buffer.items) };
+
+    ghost invariant = { λ r. (vec_len r.buffer ≡ 65536) × (r.start ≤ r.end) × (r.end ≤ 65536) };
+}
+
+impl Reader {
+    ghost use Rattle.session_core.specs.Reading.{FeedsHeld, Flows, Answers, IsReadFault};
+
+    /// A reader that holds nothing. It takes all memory that it will ever need.
+    pub fn new(alloc: Global) -> Result<Reader, AllocError>
+        ensures { IfOk result (λ reader. reader ≡ []) }
+    {
+        let buffer = vec![in alloc; 0; ROOM]?;
+        Ok(Reader {
+            buffer,
+            start: 0,
+            end: 0,
+        })
+    }
+
+    /// Forgets what is left of an old link.
+    pub fn restart(&mut self)
+        ensures { self.new ≡ [] }
+    {
+        self.start = 0;
+        self.end = 0;
+    }
+
+    // Feeds the decoder a front of what the reader holds: all, where it then stands at neither a message nor a fault.
+    fn feed_held(&mut self, decoder: &mut Decoder) -> Step
+        ensures fed { FeedsHeld self.old self.new decoder.old decoder.new }
+        ensures outcome { result ≡ outcome_of decoder.new.reading.phase decoder.new.taken }
+        ensures more { result ≡ Step.More → self.new ≡ [] }
+        ensures bound { length self.new ≤ 65536 }
+    {
+        let (fed, step) = decoder.feed(&self.buffer[self.start..self.end]);
+        self.start += fed;
+        step
+    }
+
+    // Reads from the link into the buffer, in place of what the reader held.
+    fn fill<L: Link>(&mut self, link: &mut L) -> Result<usize, Failed>
+        ensures count { IfOk result (λ count. length self.new ≡ count) }
+        ensures failed { OnErr result (self.new ≡ []) }
+        ensures end { result ≡ Ok 0 → IsAtEnd (L.left link.new) }
+        ensures taken { Appends (L.taken link.old) (L.taken link.new) self.new }
+        ensures left { Consumes (L.left link.old) (L.left link.new) self.new }
+        ensures reads { Spends (L.reads link.old) (L.reads link.new) result }
+        ensures cause { HasCause (L.faults link.old) (L.faults link.new) result }
+
+        ensures written { Keeps (L.written link.old) (L.written link.new) }
+        ensures closed { L.closed link.new ≡ L.closed link.old }
+    {
+        self.start = 0;
+        self.end = 0;
+        let count = link.read(&mut self.buffer)?;
+        self.end = count;
+        Ok(count)
+    }
+
+    /// Feeds the decoder what the reader holds and then what the link gives, up to the end of the first message, a
+    /// framing fault, the link's end or a fault of the link. Where a message stands already it answers that. It takes no
+    /// memory.
+    ///
+    /// # Errors
+    /// `ReadFault` comes only where the link's count of faults rose in this call.
+    pub fn next<L: Link>(&mut self, link: &mut L, decoder: &mut Decoder) -> Next
+        ensures flow { Flows self.old self.new (L.taken link.old) (L.taken link.new) (L.left link.old) (L.left link.new) decoder.old decoder.new }
+        ensures answer { Answers result self.new (L.left link.new) decoder.new }
+        ensures later { L.faults link.old ≤ L.faults link.new }
+        ensures cause { IsReadFault result → Rose (L.faults link.old) (L.faults link.new) }
+        ensures reads { L.reads link.new ≤ L.reads link.old }
+        ensures bound { length self.new ≤ 65536 }
+
+        // A message came from a read that gave bytes, or from what the reader held alone.
+        ensures spends { result ≡ Next.Message →
+            (L.reads link.new < L.reads link.old) ⊎ FeedsHeld self.old self.new decoder.old decoder.new }
+
+        ensures written { Keeps (L.written link.old) (L.written link.new) }
+        ensures closed { L.closed link.new ≡ L.closed link.old }
+    {
+        // A proof learns here that the place fits its type.
+        let _ = decoder.taken();
+        loop {
+            match self.feed_held(decoder) {
+                Step::Message => return Next::Message,
+                Step::Fault { place, reason } => return Next::Framing { place, reason },
+                Step::More => {}
+            }
+            match self.fill(link) {
+                Ok(0) => return at_end(decoder),
+                Ok(_) => {}
+                Err(Failed) => return Next::ReadFault,
+            }
+        }
+    }
+}
+
+// What the link's end is.
+fn at_end(decoder: &Decoder) -> Next
+    ensures { MatchesEnd result (end_of decoder.now.reading.phase decoder.now.reading.segments decoder.now.taken) }
+{
+    match decoder.finish() {
+        End::Between => Next::Ended,
+        End::Inside { place } => Next::Cut { place },
+    }
+}
