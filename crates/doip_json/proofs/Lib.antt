@@ -3,3 +3,4 @@ pub mod Ascending
 pub mod Entries
 pub mod Lists
 pub mod Found
+pub mod Printed
