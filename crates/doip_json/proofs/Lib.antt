@@ -4,3 +4,5 @@ pub mod Entries
 pub mod Lists
 pub mod Found
 pub mod Printed
+pub mod Parsed
+pub mod Outcomes

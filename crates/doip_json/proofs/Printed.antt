@@ -1,10 +1,10 @@
 -- The tokens of a value print as its canonical text.
-use Rattle.std.proofs.Common.{◌≡◌, ℕ, List, [], ◌∷◌, ◌++◌, Bool, true, false, refl, sym, ap, ap₂, ◌∙◌, append_assoc, append-nil}
+use Rattle.std.proofs.Common.{◌≡◌, ℕ, List, [], ◌∷◌, ◌++◌, Bool, true, false, refl, sym, ap, ◌∙◌, append_assoc, append-nil}
 use Rattle.std.specs.List.{join_with_byte}
 use Rattle.json.specs.Token as json
 use Rattle.json.specs.Print.{print, print_from, quoted, escape_byte}
 use Rattle.doip_json.specs.Value.{Value, null, truth, whole, text, list, table, Values, no_values, value, Entries, no_entries, entry, values_from, entries_from}
-use Rattle.doip_json.specs.Text.{text_of, item_texts, entry_texts, string_of, escaped}
+use Rattle.doip_json.specs.Text.{text_of, item_texts, entry_texts, string_of}
 use Rattle.doip_json.specs.Tokens.{tokens_of, item_tokens, entry_tokens}
 
 pub item_tokens-append : (vs : List Value) (v : Value) → item_tokens (values_from (vs ++ v ∷ [])) ≡ item_tokens (values_from vs) ++ tokens_of v

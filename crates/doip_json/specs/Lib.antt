@@ -8,3 +8,4 @@ pub mod Look
 pub mod Text
 pub mod Tokens
 pub mod Read
+pub mod Whole

@@ -1,4 +1,4 @@
-use Rattle.std.proofs.Common.{◌≡◌, ◌+◌, [], ◌∷◌, ◌++◌, take, append_assoc, sym, ap, ◌∙◌, arith}
+use Rattle.std.proofs.Common.{◌≡◌, [], ◌∷◌, ◌++◌, take, append_assoc, sym, ap, ◌∙◌, arith}
 use Rattle.json.specs.Token.{begin_array, begin_object, key}
 use Rattle.doip_json.specs.Value.{values_from, entries_from}
 use Rattle.doip_json.specs.Tokens.{tokens_of, item_tokens, entry_tokens}
