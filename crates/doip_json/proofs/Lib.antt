@@ -6,3 +6,5 @@ pub mod Found
 pub mod Printed
 pub mod Parsed
 pub mod Outcomes
+pub mod Numerals
+pub mod ReadBack

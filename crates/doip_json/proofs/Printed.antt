@@ -15,7 +15,7 @@ pub entry_tokens-append : (es : List (List ℕ × Value)) (k : List ℕ) (v : Va
 entry_tokens-append [] k v = ap (λ ts. json.key k ∷ ts) (append-nil (tokens_of v))
 entry_tokens-append (e ∷ es) k v = ap (λ ts. json.key e.0 ∷ (tokens_of e.1 ++ ts)) (entry_tokens-append es k v) ∙ ap (λ ts. json.key e.0 ∷ ts) (sym (append_assoc (tokens_of e.1) _ _))
 
-quoted_same : (s : List ℕ) → quoted s ≡ string_of s
+pub quoted_same : (s : List ℕ) → quoted s ≡ string_of s
 unfolding escape_byte
 quoted_same s = refl
 
