@@ -4,3 +4,8 @@ pub mod Entries
 pub mod Lists
 pub mod Found
 pub mod Taken
+pub mod Printed
+pub mod Parsed
+pub mod Outcomes
+pub mod Numerals
+pub mod ReadBack

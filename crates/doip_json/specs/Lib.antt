@@ -6,4 +6,6 @@ pub mod Falls
 pub mod Places
 pub mod Look
 pub mod Text
+pub mod Tokens
 pub mod Read
+pub mod Whole

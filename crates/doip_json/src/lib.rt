@@ -13,6 +13,7 @@
 //! deep as the value nests, and a value built by hand may nest deeper than any text.
 #![tactic(auto)]
 
+mod law;
 mod leaf;
 mod look;
 mod reading;
@@ -20,6 +21,7 @@ mod same;
 mod value;
 mod writing;
 
+pub use law::reads_back;
 pub use leaf::{Bytes, Num, Str};
 pub use look::get;
 pub use reading::{JsonFault, read};

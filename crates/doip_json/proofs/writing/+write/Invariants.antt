@@ -1,4 +1,6 @@
-use Rattle.std.proofs.Common.{◌+◌, ◌*◌}
+use Rattle.std.proofs.Common.{◌≡◌, ◌+◌, ◌*◌, ◌∷◌, ◌++◌, take}
+use Rattle.json.specs.Token.{begin_array, begin_object}
+use Rattle.doip_json.specs.Tokens.{item_tokens, entry_tokens}
 use Rattle.doip_json.specs.Value.{depth_of, deepest_value, deepest_entry, values_from, entries_from}
 use Rattle.doip_json.specs.Meaning.{value_of}
 use Rattle.doip_json.proofs.writing.+write.Given as goal
@@ -11,3 +13,15 @@ decreases-write_list l = 2 * deepest_value (values_from l.list.now) + 1
 
 abbrev pub decreases-write_map : goal.decreases-write_map
 decreases-write_map l = 2 * deepest_entry (entries_from l.map.now) + 1
+
+abbrev pub invariant-write_list-loop-i : goal.invariant-write_list-loop-i
+invariant-write_list-loop-i l = record {
+  written : l.out.tokens ≡ l.fn.out.tokens ++ begin_array ∷ item_tokens (values_from (take l.i l.list));
+  before : l.out.before ≡ l.fn.out.before;
+}
+
+abbrev pub invariant-write_map-loop-i : goal.invariant-write_map-loop-i
+invariant-write_map-loop-i l = record {
+  written : l.out.tokens ≡ l.fn.out.tokens ++ begin_object ∷ entry_tokens (entries_from (take l.i l.map));
+  before : l.out.before ≡ l.fn.out.before;
+}
