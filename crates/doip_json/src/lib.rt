@@ -25,6 +25,6 @@ pub use law::reads_back;
 pub use leaf::{Bytes, Num, Str};
 pub use look::get;
 pub use reading::{JsonFault, read};
-pub use same::{copy, is_same};
+pub use same::{copy, copy_map, is_same};
 pub use value::{Json, JsonList, JsonMap};
 pub use writing::text;

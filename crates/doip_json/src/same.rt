@@ -78,8 +78,9 @@ fn copy_list(alloc: Global, list: &JsonList) -> Result<JsonList, AllocError>
     Ok(made)
 }
 
+/// An equal table. It copies each text once.
 #[cycle(copy)]
-fn copy_map(alloc: Global, map: &JsonMap) -> Result<JsonMap, AllocError>
+pub fn copy_map(alloc: Global, map: &JsonMap) -> Result<JsonMap, AllocError>
     ensures { IfOk result (λ made. made ≡ map.now) }
 {
     let mut made = JsonMap::empty(alloc);
