@@ -1,11 +1,12 @@
 -- A key that is found among entries that ascend, and one that isn't.
 use Rattle.std.proofs.Common.{◌≡◌, ℕ, zero, suc, ◌<◌, inl, inr, List, [], ◌∷◌, length, false, true, Some, None, nat_eq, refl, sym, ap, ◌∙◌, arith}
+use Rattle.std.proofs.Common.{◌≢◌, Bool, Option, option_and_then}
 use Rattle.std.specs.List.{slice_get}
 use Rattle.std.specs.List.Sorted.{IsStrictlySortedBy}
 use Rattle.std.specs.Map.{keys_of, values_of}
 use Rattle.std.specs.Ordering.{is_eq}
 use Rattle.std.specs.declared.cmp.Ordering.TheVariants.{Less, Greater}
-use Rattle.std.specs.Cmp.Lexicographic.{pointwise, texts_ties}
+use Rattle.std.specs.Cmp.Lexicographic.{pointwise, texts_ties, same_text}
 use Rattle.std.proofs.lemmas.Bool.{cases_lt}
 use Rattle.doip_json.specs.Value.{Value, entries_from}
 use Rattle.doip_json.specs.Sound.{IsAscending}
@@ -39,3 +40,20 @@ absent es k i gap = none_there es k (λ j h. elim (cases_lt j i) [
   | inl before ↦ lower_differs k (key_of es j) (gap.lower j before)
   | inr after ↦ greater_differs k (key_of es j) (gap.greater j after h)
 ])
+
+differs : (k l : List ℕ) → k ≢ l → pointwise nat_eq k l ≡ false
+differs k l other = cases (pointwise nat_eq k l) refl
+  where
+    cases : (b : Bool) → b ≡ pointwise nat_eq k l → pointwise nat_eq k l ≡ false
+    cases true e = absurd (other (same_text k l e))
+    cases false e = sym e
+
+-- no entry has the name
+pub none_named : (es : Pairs) (o : Option (List ℕ)) → ((j : ℕ) → j < length es → o ≢ Some (key_of es j)) → option_and_then (λ k. entry_of k (entries_from es)) o ≡ None
+none_named es None other = refl
+none_named es (Some k) other = none_there es k (λ j h. differs k (key_of es j) (λ e. other j h (ap Some e)))
+
+pub key_from_keys : (es : Pairs) (i : ℕ) (k : List ℕ) → slice_get (keys_of es) i ≡ Some k → key_of es i ≡ k
+key_from_keys [] i k e = absurd (cc)
+key_from_keys (x ∷ es) zero k e = cc
+key_from_keys (x ∷ es) (suc i) k e = key_from_keys es i k e

@@ -9,3 +9,4 @@ pub mod Parsed
 pub mod Outcomes
 pub mod Numerals
 pub mod ReadBack
+pub mod Tokens

@@ -5,6 +5,7 @@ use Rattle.std.proofs.lemmas.List.{take_more}
 use Rattle.std.proofs.lemmas.Option.{slice_get_within, get_or_from_slice_get}
 use Rattle.std.specs.List.{slice_get}
 use Rattle.std.specs.Map.{keys_of, values_of}
+use Rattle.doip_json.specs.Pointer.{item_of}
 use Rattle.doip_json.specs.Value.{Value, list, table, Values, no_values, value, Entries, no_entries, entry, values_from, entries_from, depth_of, deepest_value, deepest_entry}
 
 pub same_lists : {X : Type 0} (xs ys : List X) → length xs ≡ length ys → ((j : ℕ) → j < length xs → slice_get xs j ≡ slice_get ys j) → xs ≡ ys
@@ -61,3 +62,9 @@ entry_read (e ∷ es) (suc i) k v key one = entry_read es i k v key one
 -- a value that is another at one place makes another list
 pub values_differ : (es fs : List (List ℕ × Value)) → es ≡ fs → values_of es ≡ values_of fs
 values_differ es fs e = ap values_of e
+
+pub item_of-values_from : (vs : List Value) (i : ℕ) → item_of i (values_from vs) ≡ slice_get vs i
+item_of-values_from [] zero = refl
+item_of-values_from [] (suc i) = refl
+item_of-values_from (v ∷ vs) zero = refl
+item_of-values_from (v ∷ vs) (suc i) = item_of-values_from vs i

@@ -5,6 +5,7 @@ pub mod Sound
 pub mod Falls
 pub mod Places
 pub mod Look
+pub mod Pointer
 pub mod Text
 pub mod Tokens
 pub mod Read

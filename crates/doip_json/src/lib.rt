@@ -16,6 +16,7 @@
 mod law;
 mod leaf;
 mod look;
+mod pointer;
 mod reading;
 mod same;
 mod value;
@@ -24,6 +25,7 @@ mod writing;
 pub use law::reads_back;
 pub use leaf::{Bytes, Num, Str};
 pub use look::get;
+pub use pointer::at_pointer;
 pub use reading::{JsonFault, read};
 pub use same::{copy, copy_map, is_same};
 pub use value::{Json, JsonList, JsonMap};
