@@ -10,3 +10,4 @@ pub mod Outcomes
 pub mod Numerals
 pub mod ReadBack
 pub mod Tokens
+pub mod OneLine

@@ -22,7 +22,7 @@ mod same;
 mod value;
 mod writing;
 
-pub use law::reads_back;
+pub use law::{is_one_line, reads_back};
 pub use leaf::{Bytes, Num, Str};
 pub use look::get;
 pub use pointer::at_pointer;
