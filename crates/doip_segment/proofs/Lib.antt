@@ -2,3 +2,5 @@ pub mod PlaceLemmas
 pub mod ClassLemmas
 pub mod RunLemmas
 pub mod FitLemmas
+pub mod WalkLemmas
+pub mod TellLemmas
