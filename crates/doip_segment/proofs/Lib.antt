@@ -4,3 +4,5 @@ pub mod RunLemmas
 pub mod FitLemmas
 pub mod WalkLemmas
 pub mod TellLemmas
+pub mod PositionLemmas
+pub mod CleanLemmas

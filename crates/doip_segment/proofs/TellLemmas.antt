@@ -38,7 +38,7 @@ ends_push : (line : Bool) (text : List ℕ) (b : ℕ) → ends_line line (text +
 ends_push line [] b = refl
 ends_push line (x ∷ text) b = ends_push (eqb x 10) text b
 
-opens_push : (text : List ℕ) (b : ℕ) → OpensText text → (ends_line false text ≡ true → b ≢ 35) → OpensText (text ++ b ∷ [])
+pub opens_push : (text : List ℕ) (b : ℕ) → OpensText text → (ends_line false text ≡ true → b ≢ 35) → OpensText (text ++ b ∷ [])
 opens_push [] b opens last = absurd opens
 opens_push (x ∷ text) b opens last = (opens.0, free_push false (x ∷ text) b opens.1 last)
 
@@ -474,7 +474,7 @@ told_on s front (b ∷ bs) t =
 pub told : (bytes : List ℕ) → Told (walk outset bytes) bytes
 told bytes = told_on outset [] bytes (record { parts = []; tail = []; are_parts = tt; says = refl; is = refl; behind = (refl, tt) })
 
-told_at : (s : Core) (bytes : List ℕ) → walk outset bytes ≡ s → Told s bytes
+pub told_at : (s : Core) (bytes : List ℕ) → walk outset bytes ≡ s → Told s bytes
 told_at s bytes e = subst (λ (x : Core). Told x bytes) e (told bytes)
 
 -- a whole message is a spelling

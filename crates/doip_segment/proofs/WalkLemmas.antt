@@ -113,7 +113,7 @@ abbrev pub waiting : Bool → List ℕ
 waiting true = 10 ∷ []
 waiting false = []
 
-abbrev unless_feed : Bool → ℕ → List ℕ
+abbrev pub unless_feed : Bool → ℕ → List ℕ
 unless_feed true b = []
 unless_feed false b = b ∷ []
 
@@ -128,7 +128,7 @@ ends_line line [] = line
 ends_line line (b ∷ bs) = ends_line (eqb b 10) bs
 
 
-abbrev is_feed : Class → Bool
+abbrev pub is_feed : Class → Bool
 is_feed LineFeed = true
 is_feed _ = false
 
@@ -144,7 +144,7 @@ class_feed : (b : ℕ) → eqb b 10 ≡ is_feed (class_of b)
 class_feed b = feed_by_tests (eqb b 10) (eqb b 32 || eqb b 9 || eqb b 13) (eqb b 35) (eqb b 64) (leb 48 b && leb b 57) (b - 48)
 
 -- one byte of text
-text_step : (segments : List Segment) (pending : List ℕ) (line : Bool) (b : ℕ) (c : Class) → (c ≡ LineFeed → b ≡ 10) → (line ≡ true → c ≡ Hash → ⊥) → moved (core segments pending (text_phase line)) c b ≡ core segments (pending ++ (waiting line ++ unless_feed (is_feed c) b)) (text_phase (is_feed c))
+pub text_step : (segments : List Segment) (pending : List ℕ) (line : Bool) (b : ℕ) (c : Class) → (c ≡ LineFeed → b ≡ 10) → (line ≡ true → c ≡ Hash → ⊥) → moved (core segments pending (text_phase line)) c b ≡ core segments (pending ++ (waiting line ++ unless_feed (is_feed c) b)) (text_phase (is_feed c))
 text_step segments pending true b Hash is other = absurd (other refl refl)
 text_step segments pending true b LineFeed is other = refl
 text_step segments pending true b Blank is other = refl
