@@ -6,3 +6,4 @@ pub mod WalkLemmas
 pub mod TellLemmas
 pub mod PositionLemmas
 pub mod CleanLemmas
+pub mod FramingLemmas

@@ -174,8 +174,14 @@ digit_not_white b low (inl (inr (inl e))) = omega (arith, low, e)
 digit_not_white b low (inl (inr (inr e))) = omega (arith, low, e)
 digit_not_white b low (inr e) = omega (arith, low, e)
 
-digit_begins : (b : ℕ) → 48 ≤ b → b ≤ 57 → BeginsText b
+pub digit_begins : (b : ℕ) → 48 ≤ b → b ≤ 57 → BeginsText b
 digit_begins b low high = (digit_not_white b low, (λ e. omega (arith, low, e)), (λ e. omega (arith, high, e)))
+
+pub at_not_white : (b : ℕ) → b ≡ 64 → IsWhite b → ⊥
+at_not_white b at (inl (inl e)) = omega (arith, at, e)
+at_not_white b at (inl (inr (inl e))) = omega (arith, at, e)
+at_not_white b at (inl (inr (inr e))) = omega (arith, at, e)
+at_not_white b at (inr e) = omega (arith, at, e)
 
 other_not_white : (b : ℕ) → Classified b Other → IsWhite b → ⊥
 other_not_white b k (inl (inl e)) = k.1 e
@@ -183,7 +189,7 @@ other_not_white b k (inl (inr (inl e))) = k.2 e
 other_not_white b k (inl (inr (inr e))) = k.3 e
 other_not_white b k (inr e) = k.0 e
 
-other_begins : (b : ℕ) → Classified b Other → BeginsText b
+pub other_begins : (b : ℕ) → Classified b Other → BeginsText b
 other_begins b k = (other_not_white b k, k.4, k.5)
 
 -- a segment's text begins
