@@ -74,7 +74,7 @@ reach_by limits r b bs false None live none counted later =
     let onward : run limits r (b ∷ bs) ≡ run limits (stepped r (class_of b) b) bs = ap (λ x. run limits x bs) on in
     let count : (run limits (stepped r (class_of b) b) bs).count ≡ r.count + 1 + length bs = sym (ap (λ (x : Reading). x.count) onward) ∙ counted ∙ (let e : r.count + length (b ∷ bs) ≡ r.count + 1 + length bs = omega arith in e) in
     elim (later count) [
-      inl clean ↦ inl ((live, none, clean.0), onward ∙ clean.1)
+      | inl clean ↦ inl ((live, none, clean.0), onward ∙ clean.1)
       | inr broke ↦ inr (record {
         front = b ∷ broke.front;
         byte = broke.byte;

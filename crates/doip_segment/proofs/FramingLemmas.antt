@@ -344,8 +344,8 @@ fault_breaks limits front b more reason clean live fault = record {
   at = refl;
   fault = fault;
   first = λ before x after other e low here.
-    let cut = split_front front (b ∷ more) before x after e low in
-    no_fault_inside limits before x cut.0 other (subst (Clean limits start) cut.1 clean) (subst (λ (y : List ℕ). is_done (go start y).phase ≡ false) cut.1 live) here;
+      let cut = split_front front (b ∷ more) before x after e low in
+      no_fault_inside limits before x cut.0 other (subst (Clean limits start) cut.1 clean) (subst (λ (y : List ℕ). is_done (go start y).phase ≡ false) cut.1 live) here;
 }
 
 -- the bytes, by all but the last and the last
@@ -380,29 +380,29 @@ no_message limits front (b ∷ bs) message clean live is =
 pub stuck_broken : (limits : Limits) (bytes more : List ℕ) (reason : Reason) → (run limits start bytes).count ≡ length bytes → (run limits start bytes).phase ≡ Stuck reason → Broken limits (bytes ++ more) (length bytes) reason
 stuck_broken limits bytes more reason counted stuck =
     elim (reach limits start bytes (counted ∙ (let e : length bytes ≡ 0 + length bytes = omega arith in e))) [
-      inl clean ↦ clean_stuck limits bytes more reason clean.0 (sym (ap (λ (x : Reading). x.phase) clean.1) ∙ stuck)
+      | inl clean ↦ clean_stuck limits bytes more reason clean.0 (sym (ap (λ (x : Reading). x.phase) clean.1) ∙ stuck)
       | inr broke ↦ (
-        let same : Stuck broke.reason ≡ Stuck reason = sym broke.phase ∙ stuck in
-        let is : broke.reason ≡ reason = cc in
-        let fault = limit_is_fault limits broke.front broke.byte reason broke.clean (broke.fault ∙ ap Some is) in
-        at_last limits bytes broke.front broke.byte more reason broke.is (fault_breaks limits broke.front broke.byte more reason broke.clean broke.live fault)
-      )
+          let same : Stuck broke.reason ≡ Stuck reason = sym broke.phase ∙ stuck in
+          let is : broke.reason ≡ reason = cc in
+          let fault = limit_is_fault limits broke.front broke.byte reason broke.clean (broke.fault ∙ ap Some is) in
+          at_last limits bytes broke.front broke.byte more reason broke.is (fault_breaks limits broke.front broke.byte more reason broke.clean broke.live fault)
+          )
     ]
 
 -- a reading whose message is whole
 pub whole_spelt : (limits : Limits) (bytes : List ℕ) → (run limits start bytes).count ≡ length bytes → (run limits start bytes).phase ≡ Whole → Spelt limits bytes (run limits start bytes).segments
 whole_spelt limits bytes counted whole =
     elim (reach limits start bytes (counted ∙ (let e : length bytes ≡ 0 + length bytes = omega arith in e))) [
-      inl clean ↦ (
-        let r = go start bytes in
-        let bounded = bounded_start limits bytes clean.0 in
-        let at : r.phase ≡ Whole = sym (ap (λ (x : Reading). x.phase) clean.1) ∙ whole in
-        let spelling = whole_spelling r.segments r.pending bytes (walk_go bytes ∙ ap (core r.segments r.pending) at) in
-        subst (λ (x : Reading). Spelt limits bytes x.segments) (sym clean.1) (record {
-          spelling = spelling;
-          within = record { total = omega (arith, bounded.total, count_go start bytes); count = omega (arith, bounded.segments); json = bounded.json };
-        })
-      )
+      | inl clean ↦ (
+          let r = go start bytes in
+          let bounded = bounded_start limits bytes clean.0 in
+          let at : r.phase ≡ Whole = sym (ap (λ (x : Reading). x.phase) clean.1) ∙ whole in
+          let spelling = whole_spelling r.segments r.pending bytes (walk_go bytes ∙ ap (core r.segments r.pending) at) in
+          subst (λ (x : Reading). Spelt limits bytes x.segments) (sym clean.1) (record {
+            spelling = spelling;
+            within = record { total = omega (arith, bounded.total, count_go start bytes); count = omega (arith, bounded.segments); json = bounded.json };
+          })
+          )
       | inr broke ↦ absurd (let h : Stuck broke.reason ≡ Whole = sym broke.phase ∙ whole in cc)
     ]
 
@@ -410,12 +410,12 @@ whole_spelt limits bytes counted whole =
 pub live_unfinished : (limits : Limits) (bytes : List ℕ) → (run limits start bytes).count ≡ length bytes → is_done (run limits start bytes).phase ≡ false → IsUnfinished limits bytes
 live_unfinished limits bytes counted live =
     elim (reach limits start bytes (counted ∙ (let e : length bytes ≡ 0 + length bytes = omega arith in e))) [
-      inl clean ↦ (
-        let at : is_done (go start bytes).phase ≡ false = sym (ap (λ (x : Reading). is_done x.phase) clean.1) ∙ live in
-        record {
-          unspelt = λ front behind message e spelt. no_message limits front behind message (subst (Clean limits start) e clean.0) (subst (λ (y : List ℕ). is_done (go start y).phase ≡ false) e at) spelt.spelling;
-          unbroken = λ place reason broken. no_fault_inside limits broken.front broken.byte broken.behind reason (subst (Clean limits start) broken.is clean.0) (subst (λ (y : List ℕ). is_done (go start y).phase ≡ false) broken.is at) broken.fault;
-        }
-      )
+      | inl clean ↦ (
+          let at : is_done (go start bytes).phase ≡ false = sym (ap (λ (x : Reading). is_done x.phase) clean.1) ∙ live in
+          record {
+            unspelt = λ front behind message e spelt. no_message limits front behind message (subst (Clean limits start) e clean.0) (subst (λ (y : List ℕ). is_done (go start y).phase ≡ false) e at) spelt.spelling;
+            unbroken = λ place reason broken. no_fault_inside limits broken.front broken.byte broken.behind reason (subst (Clean limits start) broken.is clean.0) (subst (λ (y : List ℕ). is_done (go start y).phase ≡ false) broken.is at) broken.fault;
+          }
+          )
       | inr broke ↦ absurd (let h : true ≡ false = sym (ap is_done broke.phase) ∙ live in cc)
     ]

@@ -7,3 +7,4 @@ pub mod TellLemmas
 pub mod PositionLemmas
 pub mod CleanLemmas
 pub mod FramingLemmas
+pub mod FeedLemmas

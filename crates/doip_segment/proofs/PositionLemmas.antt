@@ -26,30 +26,28 @@ pub at_segment_walk : (front : List ℕ) (n : ℕ) → AtSegment front n → (se
 at_segment_walk front n at = (map segment_of_part at.parts, ap (walk outset) at.is ∙ due_walk at.parts at.white at.are_parts at.are_white, length-map at.parts segment_of_part ∙ at.counted)
 
 pub in_text_walk : (front : List ℕ) (b : ℕ) (bs : List ℕ) → InText front (b ∷ bs) → (segments : List Segment) × (walk outset front ≡ core segments (text_kept false (b ∷ []) bs) (text_phase (ends_line false bs)))
-in_text_walk front b bs in_ =
-    (
-      map segment_of_part in_.parts,
-      ap (walk outset) in_.is
+in_text_walk front b bs in_ = (
+  map segment_of_part in_.parts,
+  ap (walk outset) in_.is
       ∙ walk-append outset (flat_map part_bytes in_.parts ++ in_.white) (b ∷ bs)
       ∙ ap (λ s. walk s (b ∷ bs)) (due_walk in_.parts in_.white in_.are_parts in_.are_white)
       ∙ text_begins (map segment_of_part in_.parts) b bs in_.opens.0 in_.opens.1,
-    )
+)
 
 pub in_bytes_walk : (front inner : List ℕ) → InBytes front inner → (segments : List Segment) × (content : List ℕ) × (walk outset front ≡ walk (core segments content ChunkDue) inner)
 in_bytes_walk front inner in_ =
     let due = flat_map part_bytes in_.parts ++ in_.white in
     let opening = 64 ∷ [] ++ ending in_.blanks ++ flat_map chunk_bytes in_.chunks in
-    let apart : flat_map part_bytes in_.parts ++ in_.white ++ 64 ∷ [] ++ ending in_.blanks ++ flat_map chunk_bytes in_.chunks ++ inner ≡ (due ++ opening) ++ inner = simp append_assoc in
-    (
+    let apart : flat_map part_bytes in_.parts ++ in_.white ++ 64 ∷ [] ++ ending in_.blanks ++ flat_map chunk_bytes in_.chunks ++ inner ≡ (due ++ opening) ++ inner = simp append_assoc in (
       map segment_of_part in_.parts,
       flat_map content_of in_.chunks,
       ap (walk outset) (in_.is ∙ apart)
-      ∙ walk-append outset (due ++ opening) inner
-      ∙ ap (λ s. walk s inner) (
-        walk-append outset due opening
-        ∙ ap (λ s. walk s opening) (due_walk in_.parts in_.white in_.are_parts in_.are_white)
-        ∙ bytes_opens (map segment_of_part in_.parts) in_.blanks in_.chunks in_.are_blank in_.are_chunks
-      ),
+          ∙ walk-append outset (due ++ opening) inner
+          ∙ ap (λ s. walk s inner) (
+          walk-append outset due opening
+          ∙ ap (λ s. walk s opening) (due_walk in_.parts in_.white in_.are_parts in_.are_white)
+          ∙ bytes_opens (map segment_of_part in_.parts) in_.blanks in_.chunks in_.are_blank in_.are_chunks
+          ),
     )
 
 pub due_phase : (front : List ℕ) → ChunkIsDue front → (walk outset front).phase ≡ ChunkDue
@@ -59,17 +57,16 @@ pub digits_phase : (front : List ℕ) → BehindDigits front → (n v : ℕ) × 
 digits_phase front behind =
     let digits = behind.0 in
     let blanks = behind.1 in
-    let w = in_bytes_walk front (digits ++ blanks) behind.4 in
-    (
+    let w = in_bytes_walk front (digits ++ blanks) behind.4 in (
       length digits,
       value_of digits,
       blanks,
       ap (λ (s : Core). s.phase) (
-        w.2
-        ∙ walk-append (core w.0 w.1 ChunkDue) digits blanks
-        ∙ ap (λ s. walk s blanks) (length_walk w.0 w.1 digits behind.2)
-        ∙ padding_walk w.0 w.1 (length digits) (value_of digits) blanks behind.3
-      ),
+          w.2
+          ∙ walk-append (core w.0 w.1 ChunkDue) digits blanks
+          ∙ ap (λ s. walk s blanks) (length_walk w.0 w.1 digits behind.2)
+          ∙ padding_walk w.0 w.1 (length digits) (value_of digits) blanks behind.3
+          ),
     )
 
 pub data_phase : (front : List ℕ) → BehindData front → (walk outset front).phase ≡ DataEnd
@@ -148,8 +145,7 @@ begin_of b Other k white hash = refl
 
 pub too_many_begins : (front : List ℕ) (b : ℕ) → IsTooMany front b → (begins (walk outset front).phase (class_of b) ≡ true) × (length (walk outset front).segments ≡ 2048)
 too_many_begins front b many =
-    let w = at_segment_walk front 2048 many.0 in
-    (
+    let w = at_segment_walk front 2048 many.0 in (
       ap (λ (s : Core). begins s.phase (class_of b)) w.1 ∙ begin_of b (class_of b) (classified b) many.1 many.2,
       ap (λ (s : Core). length s.segments) w.1 ∙ w.2,
     )

@@ -143,7 +143,6 @@ data_tail : (left : ℕ) (pending tail : List ℕ) → DataTail left pending tai
 data_tail zero pending tail t = t
 data_tail (suc left) pending tail t = (omega arith, t)
 
-
 -- the tail where nothing is added to the content
 same_tail : (p : Phase) (pending tail : List ℕ) → Tail p pending tail → Tail p (pending ++ []) tail
 same_tail p pending tail t = subst (λ (x : List ℕ). Tail p x tail) (sym (append-nil pending)) t
@@ -197,22 +196,27 @@ text_first : (b : ℕ) (pending tail : List ℕ) → BeginsText b → pending �
 text_first b pending tail begins none white =
     let e = push_to_nil pending b none in
     let line : eqb b 10 ≡ false = not_true (eqb b 10) (λ h. begins.0 (inr (eq_tests b 10 h))) in
-    subst (λ (x : List ℕ). Tail Text x (tail ++ b ∷ [])) (sym e) (line, record {
-      white = tail;
-      are_white = white;
-      opens = (begins, ((λ h. absurd (let f : false ≡ true = h in cc)), tt));
-      is = refl;
-    })
+    subst (λ (x : List ℕ). Tail Text x (tail ++ b ∷ [])) (sym e) (
+      line,
+      record {
+        white = tail;
+        are_white = white;
+        opens = (begins, ((λ h. absurd (let f : false ≡ true = h in cc)), tt));
+        is = refl;
+      },
+    )
 
 -- a segment's text goes on
 text_next : (b : ℕ) (pending tail : List ℕ) → b ≢ 10 → Tail Text pending tail → Tail Text (pending ++ b ∷ []) (tail ++ b ∷ [])
-text_next b pending tail other t =
-    (ends_push false pending b ∙ not_true (eqb b 10) (λ h. other (eq_tests b 10 h)), record {
-      white = t.1.white;
-      are_white = t.1.are_white;
-      opens = opens_push pending b t.1.opens (λ h. absurd (let f : false ≡ true = sym t.0 ∙ h in cc));
-      is = ap (λ x. x ++ b ∷ []) t.1.is ∙ simp append_assoc;
-    })
+text_next b pending tail other t = (
+  ends_push false pending b ∙ not_true (eqb b 10) (λ h. other (eq_tests b 10 h)),
+  record {
+    white = t.1.white;
+    are_white = t.1.are_white;
+    opens = opens_push pending b t.1.opens (λ h. absurd (let f : false ≡ true = sym t.0 ∙ h in cc));
+    is = ap (λ x. x ++ b ∷ []) t.1.is ∙ simp append_assoc;
+  },
+)
 
 -- the line feed that waited is text, and the byte behind it too
 line_next : (b : ℕ) (pending tail : List ℕ) → b ≢ 10 → b ≢ 35 → Tail LineStart pending tail → Tail Text (pending ++ 10 ∷ b ∷ []) (tail ++ b ∷ [])
@@ -220,13 +224,15 @@ line_next b pending tail other hash t =
     let once = opens_push pending 10 t.opens (λ h e. absurd (omega (arith, e))) in
     let twice = opens_push (pending ++ 10 ∷ []) b once (λ h. hash) in
     let apart : (pending ++ 10 ∷ []) ++ b ∷ [] ≡ pending ++ 10 ∷ b ∷ [] = append_assoc pending (10 ∷ []) (b ∷ []) in
-    let ends = ends_push false (pending ++ 10 ∷ []) b ∙ not_true (eqb b 10) (λ h. other (eq_tests b 10 h)) in
-    (subst (λ (x : List ℕ). ends_line false x ≡ false) apart ends, record {
-      white = t.white;
-      are_white = t.are_white;
-      opens = subst OpensText apart twice;
-      is = ap (λ x. x ++ b ∷ []) t.is ∙ simp append_assoc;
-    })
+    let ends = ends_push false (pending ++ 10 ∷ []) b ∙ not_true (eqb b 10) (λ h. other (eq_tests b 10 h)) in (
+      subst (λ (x : List ℕ). ends_line false x ≡ false) apart ends,
+      record {
+        white = t.white;
+        are_white = t.are_white;
+        opens = subst OpensText apart twice;
+        is = ap (λ x. x ++ b ∷ []) t.is ∙ simp append_assoc;
+      },
+    )
 
 line_again : (b : ℕ) (pending tail : List ℕ) → b ≡ 10 → Tail LineStart pending tail → Tail LineStart (pending ++ 10 ∷ []) (tail ++ b ∷ [])
 line_again b pending tail feed t = record {

@@ -100,7 +100,7 @@ pub white_walk : (segments : List Segment) (ws : List ℕ) → AllByRecursion Is
 white_walk segments [] all = refl
 white_walk segments (w ∷ ws) all =
     elim (white_class w all.0) [
-      inl e ↦ walk_as (core segments [] Due) w Blank ws e ∙ white_walk segments ws all.1
+      | inl e ↦ walk_as (core segments [] Due) w Blank ws e ∙ white_walk segments ws all.1
       | inr e ↦ walk_as (core segments [] Due) w LineFeed ws e ∙ white_walk segments ws all.1
     ]
 
@@ -126,7 +126,6 @@ text_kept line pending (b ∷ bs) = text_kept (eqb b 10) (pending ++ (waiting li
 abbrev pub ends_line : Bool → List ℕ → Bool
 ends_line line [] = line
 ends_line line (b ∷ bs) = ends_line (eqb b 10) bs
-
 
 abbrev pub is_feed : Class → Bool
 is_feed LineFeed = true
@@ -296,11 +295,11 @@ chunk_opens segments pending digits blanks content is all within =
     let at = core segments pending ChunkDue in
     walk-append at (digits ++ ending blanks) content
     ∙ ap (λ s. walk s content) (
-      walk-append at digits (ending blanks)
-      ∙ ap (λ s. walk s (ending blanks)) (length_walk segments pending digits is)
-      ∙ walk-append (core segments pending (Digits (length digits) (value_of digits))) blanks (10 ∷ [])
-      ∙ ap (λ s. walk s (10 ∷ [])) (padding_walk segments pending (length digits) (value_of digits) blanks all)
-      ∙ feed_behind_length segments pending (length digits) (value_of digits) blanks
+    walk-append at digits (ending blanks)
+    ∙ ap (λ s. walk s (ending blanks)) (length_walk segments pending digits is)
+    ∙ walk-append (core segments pending (Digits (length digits) (value_of digits))) blanks (10 ∷ [])
+    ∙ ap (λ s. walk s (10 ∷ [])) (padding_walk segments pending (length digits) (value_of digits) blanks all)
+    ∙ feed_behind_length segments pending (length digits) (value_of digits) blanks
     )
     ∙ data_walk segments pending (value_of digits) content within
 
@@ -334,9 +333,9 @@ bytes_walk segments blanks cs closing all are shut =
     let content = flat_map content_of cs in
     walk-append at (64 ∷ [] ++ ending blanks ++ flat_map chunk_bytes cs ++ 35 ∷ []) (ending closing)
     ∙ ap (λ s. walk s (ending closing)) (
-      walk-append at (64 ∷ [] ++ ending blanks ++ flat_map chunk_bytes cs) (35 ∷ [])
-      ∙ ap (λ s. walk s (35 ∷ [])) (bytes_opens segments blanks cs all are)
-      ∙ ap (λ p. core segments p BytesEnd) (append-nil content)
+    walk-append at (64 ∷ [] ++ ending blanks ++ flat_map chunk_bytes cs) (35 ∷ [])
+    ∙ ap (λ s. walk s (35 ∷ [])) (bytes_opens segments blanks cs all are)
+    ∙ ap (λ p. core segments p BytesEnd) (append-nil content)
     )
     ∙ ending_walk segments content BytesEnd closing bytes_end_stays shut
 

@@ -1,5 +1,5 @@
 -- What contracts see of a decoder.
-use Rattle.std.specs.Prelude.{◌≡◌, ℕ, ◌+◌, ◌≤◌, ◌<◌, List, [], length, Bool, true, false, IsTrue}
+use Rattle.std.specs.Prelude.{◌≡◌, ℕ, ◌+◌, ◌≤◌, ◌<◌, List, [], ◌++◌, length, take, Bool, true, false, IsTrue}
 use Rattle.doip_segment.specs.declared.outcome.Limits.{Limits}
 use Rattle.doip_segment.specs.declared.outcome.Reason.{Reason}
 use Rattle.doip_segment.specs.declared.outcome.End.{End}
@@ -9,6 +9,7 @@ use Rattle.doip_segment.specs.declared.outcome.Step.TheVariants as steps
 use Rattle.doip_segment.specs.declared.phase.Phase.{Phase}
 use Rattle.doip_segment.specs.declared.phase.Phase.TheVariants.{Due, Text, LineStart, JsonEnd, BytesStart, ChunkDue, Digits, Padding, Data, DataEnd, BytesEnd, MessageEnd, Whole, Stuck}
 use Rattle.doip_segment.specs.Segments.{Segment, Held}
+use Rattle.doip_segment.specs.Framing.{Spelt, Broken, IsUnfinished}
 use Rattle.doip_segment.specs.Machine.{Reading, start, run, IsInRange}
 
 -- a decoder: its limits, what it has read since the last message, and how many bytes it took, or 2^64 - 1 where there were more
@@ -68,3 +69,10 @@ abbrev pub end_of : Phase → List Segment → ℕ → End
 end_of Whole segments taken = ends.Between
 end_of Due [] taken = ends.Between
 end_of _ segments taken = ends.Inside taken
+
+-- What feed says of the bytes taken since the last message and a piece that comes behind them: how many bytes of it were
+-- taken, and what stands then. A message's last byte and a fault's byte are the last that are taken.
+abbrev pub Frames : Limits → List ℕ → List ℕ → ℕ → Step → List Segment → Type 0
+Frames limits came piece used steps.More segments = (used ≡ length piece) × IsUnfinished limits (came ++ piece)
+Frames limits came piece used steps.Message segments = Spelt limits (came ++ take used piece) segments
+Frames limits came piece used (steps.Fault place reason) segments = Broken limits (came ++ piece) (length came + used) reason
