@@ -62,7 +62,7 @@ run_done limits r (b ∷ bs) done =
     let same : advanced limits r b ≡ r = ap (λ t. cond t r (stepped_within (limit_fault limits r (class_of b)) r (class_of b) b)) done in
     ap (λ x. run limits x bs) same ∙ run_done limits r bs done
 
-live_step : (limits : Limits) (r : Reading) (b : ℕ) → is_done r.phase ≡ false → advanced limits r b ≡ stepped_within (limit_fault limits r (class_of b)) r (class_of b) b
+pub live_step : (limits : Limits) (r : Reading) (b : ℕ) → is_done r.phase ≡ false → advanced limits r b ≡ stepped_within (limit_fault limits r (class_of b)) r (class_of b) b
 live_step limits r b live = ap (λ t. cond t r (stepped_within (limit_fault limits r (class_of b)) r (class_of b) b)) live
 
 -- a reading that counts each of the bytes took them all

@@ -8,3 +8,4 @@ pub mod PositionLemmas
 pub mod CleanLemmas
 pub mod FramingLemmas
 pub mod FeedLemmas
+pub mod SpeltLemmas
