@@ -9,3 +9,4 @@ pub mod CleanLemmas
 pub mod FramingLemmas
 pub mod FeedLemmas
 pub mod SpeltLemmas
+pub mod LawLemmas
