@@ -8,10 +8,11 @@ use Rattle.doip_segment.specs.declared.outcome.Step.TheVariants as steps
 use Rattle.doip_segment.specs.declared.phase.Phase.{Phase}
 use Rattle.doip_segment.specs.declared.phase.Phase.TheVariants.{Due, Text, LineStart, JsonEnd, BytesStart, ChunkDue, Digits, Padding, Data, DataEnd, BytesEnd, MessageEnd, Whole, Stuck}
 use Rattle.doip_segment.specs.Segments.{Segment}
-use Rattle.doip_segment.specs.Framing.{Spelt, Broken, IsUnfinished}
+use Rattle.doip_segment.specs.Framing.{Spelt, NothingSpelt, Broken, IsUnfinished}
 use Rattle.doip_segment.specs.Machine.{run, is_done, Reading, start}
 use Rattle.doip_segment.specs.Decoding.{Frames, outcome_of}
 use Rattle.doip_segment.proofs.RunLemmas.{run-append}
+use Rattle.doip_segment.proofs.LawLemmas.{stuck_unspelt}
 use Rattle.doip_segment.proofs.FramingLemmas.{stuck_broken, whole_spelt, live_unfinished}
 
 -- a reading of a piece goes on from that of the bytes before it
@@ -39,8 +40,10 @@ frames_at limits r came piece used taken (Stuck reason) is counted within all e 
     let at = sym (ap (λ (x : Reading). x.phase) is) ∙ e in
     let bytes = came ++ take used piece in
     let joined : bytes ++ drop used piece ≡ came ++ piece = append_assoc came (take used piece) (drop used piece) ∙ ap (λ x. came ++ x) (take-append-drop used piece) in
-    let size : length bytes ≡ length came + used = omega (arith, length-append came (take used piece), length-take-le used piece within) in
-    subst (λ (x : List ℕ). Broken limits x (length came + used) reason) joined (subst (λ (n : ℕ). Broken limits (bytes ++ drop used piece) n reason) size (stuck_broken limits bytes (drop used piece) reason count at))
+    let size : length bytes ≡ length came + used = omega (arith, length-append came (take used piece), length-take-le used piece within) in (
+      subst (λ (x : List ℕ). Broken limits x (length came + used) reason) joined (subst (λ (n : ℕ). Broken limits (bytes ++ drop used piece) n reason) size (stuck_broken limits bytes (drop used piece) reason count at)),
+      subst (NothingSpelt limits) joined (stuck_unspelt limits bytes (drop used piece) reason at),
+    )
 frames_at limits r came piece used taken Due is counted within all e = live_frames limits r came piece used is counted all (ap is_done e)
 frames_at limits r came piece used taken Text is counted within all e = live_frames limits r came piece used is counted all (ap is_done e)
 frames_at limits r came piece used taken LineStart is counted within all e = live_frames limits r came piece used is counted all (ap is_done e)

@@ -41,7 +41,7 @@ two_fronts (x ∷ front) behind (y ∷ other) rest e =
     let tails : front ++ behind ≡ other ++ rest = cc in
     let heads : x ≡ y = cc in
     elim (two_fronts front behind other rest tails) [
-      inl longer ↦ inl (record { more = longer.more; is = ap (λ z. z ∷ other) (sym heads) ∙ ap (λ t. x ∷ t) longer.is })
+      | inl longer ↦ inl (record { more = longer.more; is = ap (λ z. z ∷ other) (sym heads) ∙ ap (λ t. x ∷ t) longer.is })
       | inr longer ↦ inr (record { more = longer.more; is = ap (λ z. z ∷ front) heads ∙ ap (λ t. y ∷ t) longer.is })
     ]
 
@@ -49,16 +49,16 @@ two_fronts (x ∷ front) behind (y ∷ other) rest e =
 pub one_front : (front behind other rest : List ℕ) (message second : List Segment) → front ++ behind ≡ other ++ rest → IsSpelling front message → IsSpelling other second → (front ≡ other) × (message ≡ second) × (behind ≡ rest)
 one_front front behind other rest message second e is as_ =
     elim (two_fronts front behind other rest e) [
-      inl longer ↦ (
-        let one = one_spelling front longer.more message second is (subst (λ (x : List ℕ). IsSpelling x second) longer.is as_) in
-        let same : front ≡ other = sym (longer.is ∙ ap (λ x. front ++ x) one.0 ∙ append-nil front) in
-        (same, one.1, append_cancel_left front behind rest (e ∙ ap (λ x. x ++ rest) (sym same)))
-      )
+      | inl longer ↦ (
+          let one = one_spelling front longer.more message second is (subst (λ (x : List ℕ). IsSpelling x second) longer.is as_) in
+          let same : front ≡ other = sym (longer.is ∙ ap (λ x. front ++ x) one.0 ∙ append-nil front) in
+          (same, one.1, append_cancel_left front behind rest (e ∙ ap (λ x. x ++ rest) (sym same)))
+          )
       | inr longer ↦ (
-        let one = one_spelling other longer.more second message as_ (subst (λ (x : List ℕ). IsSpelling x message) longer.is is) in
-        let same : front ≡ other = longer.is ∙ ap (λ x. other ++ x) one.0 ∙ append-nil other in
-        (same, sym one.1, append_cancel_left front behind rest (e ∙ ap (λ x. x ++ rest) (sym same)))
-      )
+          let one = one_spelling other longer.more second message as_ (subst (λ (x : List ℕ). IsSpelling x message) longer.is is) in
+          let same : front ≡ other = longer.is ∙ ap (λ x. other ++ x) one.0 ∙ append-nil other in
+          (same, sym one.1, append_cancel_left front behind rest (e ∙ ap (λ x. x ++ rest) (sym same)))
+          )
     ]
 
 -- bytes in which a fault stands begin with no message
@@ -68,14 +68,14 @@ stuck_unspelt limits bytes more reason stuck front behind message e spelt =
     let done = ap is_done reads.phase in
     let stuck_done = ap is_done stuck in
     elim (two_fronts bytes more front behind e) [
-      inl longer ↦ (
-        let same = ap (run limits start) longer.is ∙ run_behind limits bytes longer.more stuck_done in
-        let h : Whole ≡ Stuck reason = sym reads.phase ∙ ap (λ (r : Reading). r.phase) same ∙ stuck in cc
-      )
+      | inl longer ↦ (
+          let same = ap (run limits start) longer.is ∙ run_behind limits bytes longer.more stuck_done in
+          let h : Whole ≡ Stuck reason = sym reads.phase ∙ ap (λ (r : Reading). r.phase) same ∙ stuck in cc
+          )
       | inr longer ↦ (
-        let same = ap (run limits start) longer.is ∙ run_behind limits front longer.more done in
-        let h : Whole ≡ Stuck reason = sym reads.phase ∙ sym (ap (λ (r : Reading). r.phase) same) ∙ stuck in cc
-      )
+          let same = ap (run limits start) longer.is ∙ run_behind limits front longer.more done in
+          let h : Whole ≡ Stuck reason = sym reads.phase ∙ sym (ap (λ (r : Reading). r.phase) same) ∙ stuck in cc
+          )
     ]
 
 -- the bytes up to where something is done, or all
@@ -173,3 +173,68 @@ one_framing limits bytes (m ∷ ms) (o ∷ os) rest remains a b =
     let one = one_front a.0 a.1 b.0 b.1 m o (sym a.3 ∙ b.3) a.2.spelling b.2.spelling in
     let later = one_framing limits a.1 ms os rest remains a.4 (subst (λ (x : List ℕ). Framed limits x os remains) (sym one.2) b.4) in
     (ap (λ x. x ∷ ms) one.1 ∙ ap (λ x. o ∷ x) later.0, later.1)
+
+-- The reason of a fault is one.
+pub one_reason : (limits : Limits) (front : List ℕ) (b : ℕ) (x y : Reason) → IsFault limits front b x → IsFault limits front b y → x ≡ y
+one_reason limits front b reasons.TooLong reasons.TooLong f g = refl
+one_reason limits front b reasons.TooLong reasons.JsonTooLong f g = absurd (g.0 f)
+one_reason limits front b reasons.TooLong reasons.TooMany f g = absurd (g.0 f)
+one_reason limits front b reasons.TooLong reasons.ChunkEnd f g = absurd (g.0.total f)
+one_reason limits front b reasons.TooLong reasons.Length f g = absurd (g.0.total f)
+one_reason limits front b reasons.TooLong reasons.Marker f g = absurd (g.0.total f)
+one_reason limits front b reasons.JsonTooLong reasons.TooLong f g = absurd (f.0 g)
+one_reason limits front b reasons.JsonTooLong reasons.JsonTooLong f g = refl
+one_reason limits front b reasons.JsonTooLong reasons.TooMany f g = absurd (g.1 f.1)
+one_reason limits front b reasons.JsonTooLong reasons.ChunkEnd f g = absurd (g.0.json f.1)
+one_reason limits front b reasons.JsonTooLong reasons.Length f g = absurd (g.0.json f.1)
+one_reason limits front b reasons.JsonTooLong reasons.Marker f g = absurd (g.0.json f.1)
+one_reason limits front b reasons.TooMany reasons.TooLong f g = absurd (f.0 g)
+one_reason limits front b reasons.TooMany reasons.JsonTooLong f g = absurd (f.1 g.1)
+one_reason limits front b reasons.TooMany reasons.TooMany f g = refl
+one_reason limits front b reasons.TooMany reasons.ChunkEnd f g = absurd (g.0.count f.2)
+one_reason limits front b reasons.TooMany reasons.Length f g = absurd (g.0.count f.2)
+one_reason limits front b reasons.TooMany reasons.Marker f g = absurd (g.0.count f.2)
+one_reason limits front b reasons.ChunkEnd reasons.TooLong f g = absurd (f.0.total g)
+one_reason limits front b reasons.ChunkEnd reasons.JsonTooLong f g = absurd (f.0.json g.1)
+one_reason limits front b reasons.ChunkEnd reasons.TooMany f g = absurd (f.0.count g.2)
+one_reason limits front b reasons.ChunkEnd reasons.ChunkEnd f g = refl
+one_reason limits front b reasons.ChunkEnd reasons.Length f g = absurd (g.1 f.1)
+one_reason limits front b reasons.ChunkEnd reasons.Marker f g = absurd (g.1 f.1)
+one_reason limits front b reasons.Length reasons.TooLong f g = absurd (f.0.total g)
+one_reason limits front b reasons.Length reasons.JsonTooLong f g = absurd (f.0.json g.1)
+one_reason limits front b reasons.Length reasons.TooMany f g = absurd (f.0.count g.2)
+one_reason limits front b reasons.Length reasons.ChunkEnd f g = absurd (f.1 g.1)
+one_reason limits front b reasons.Length reasons.Length f g = refl
+one_reason limits front b reasons.Length reasons.Marker f g = absurd (elim f.2 [ inl due ↦ g.2 due | inr digits ↦ g.3 digits ])
+one_reason limits front b reasons.Marker reasons.TooLong f g = absurd (f.0.total g)
+one_reason limits front b reasons.Marker reasons.JsonTooLong f g = absurd (f.0.json g.1)
+one_reason limits front b reasons.Marker reasons.TooMany f g = absurd (f.0.count g.2)
+one_reason limits front b reasons.Marker reasons.ChunkEnd f g = absurd (f.1 g.1)
+one_reason limits front b reasons.Marker reasons.Length f g = absurd (elim g.2 [ inl due ↦ f.2 due | inr digits ↦ f.3 digits ])
+one_reason limits front b reasons.Marker reasons.Marker f g = refl
+
+same_cut : (f : List ℕ) (b : ℕ) (g other : List ℕ) (c : ℕ) (h : List ℕ) → f ++ b ∷ g ≡ other ++ c ∷ h → length f ≡ length other → (f ≡ other) × (b ≡ c)
+same_cut [] b g [] c h e size = (refl, (cc))
+same_cut [] b g (x ∷ other) c h e size = absurd (omega (arith, size))
+same_cut (x ∷ f) b g [] c h e size = absurd (omega (arith, size))
+same_cut (x ∷ f) b g (y ∷ other) c h e size =
+    let tails : f ++ b ∷ g ≡ other ++ c ∷ h = cc in
+    let heads : x ≡ y = cc in
+    let later = same_cut f b g other c h tails (omega (arith, size)) in
+    (ap (λ z. z ∷ f) heads ∙ ap (λ t. y ∷ t) later.0, later.1)
+
+same_by : (m n : ℕ) → n ≤ m → (n < m → ⊥) → m ≡ n
+same_by m n le high = elim (cases_lt n m) [ inl h ↦ absurd (high h) | inr h ↦ (omega arith) ]
+
+same_number : (m n : ℕ) → (m < n → ⊥) → (n < m → ⊥) → m ≡ n
+same_number m n low high = elim (cases_lt m n) [ inl h ↦ absurd (low h) | inr h ↦ same_by m n h high ]
+
+-- Bytes break at one place, for one reason.
+pub one_broken : (limits : Limits) (bytes : List ℕ) (p q : ℕ) (x y : Reason) → Broken limits bytes p x → Broken limits bytes q y → (p ≡ q) × (x ≡ y)
+one_broken limits bytes p q x y a b =
+    let low : length a.front < length b.front → ⊥ = λ h. b.first a.front a.byte a.behind x a.is h a.fault in
+    let high : length b.front < length a.front → ⊥ = λ h. a.first b.front b.byte b.behind y b.is h b.fault in
+    let size : length a.front ≡ length b.front = same_number (length a.front) (length b.front) low high in
+    let same = same_cut a.front a.byte a.behind b.front b.byte b.behind (sym a.is ∙ b.is) size in
+    let fault = subst (λ (z : ℕ). IsFault limits b.front z x) same.1 (subst (λ (z : List ℕ). IsFault limits z a.byte x) same.0 a.fault) in
+    (a.at ∙ ap (λ n. n + 1) size ∙ sym b.at, one_reason limits b.front b.byte x y fault b.fault)

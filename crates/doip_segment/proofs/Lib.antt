@@ -7,6 +7,8 @@ pub mod TellLemmas
 pub mod PositionLemmas
 pub mod CleanLemmas
 pub mod FramingLemmas
-pub mod FeedLemmas
 pub mod SpeltLemmas
 pub mod LawLemmas
+pub mod FeedLemmas
+pub mod CanonicalLemmas
+pub mod AnswerLemmas

@@ -26,7 +26,7 @@ flat_map_push : {X : Type 0} (f : X → List ℕ) (xs : List X) (x : X) → flat
 flat_map_push f [] x = append-nil (f x)
 flat_map_push f (y ∷ xs) x = ap (λ t. f y ++ t) (flat_map_push f xs x) ∙ sym (append_assoc (f y) (flat_map f xs) (f x))
 
-value_push : (v : ℕ) (ds : List ℕ) (d : ℕ) → value_after v (ds ++ d ∷ []) ≡ 10 * value_after v ds + (d - 48)
+pub value_push : (v : ℕ) (ds : List ℕ) (d : ℕ) → value_after v (ds ++ d ∷ []) ≡ 10 * value_after v ds + (d - 48)
 value_push v [] d = refl
 value_push v (x ∷ ds) d = value_push (10 * v + (x - 48)) ds d
 

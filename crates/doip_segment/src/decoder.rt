@@ -3,7 +3,7 @@
 ghost use Rattle.std.specs.Prelude.{◌≡◌, ◌≢◌, ◌+◌, ◌-◌, ◌≤◌, ◌<◌, ◌^◌, ◌↔◌, ◌||◌, ℕ, List, min, [], ◌∷◌, ◌++◌, length, take, true, false, IsTrue, IsSome, IfOk, Some, None};
 ghost use Rattle.doip_segment.specs.Machine.{class_of, passes_json, begins, closed, added, kept, limit_fault, is_done, start, run, advanced};
 ghost use Rattle.doip_segment.specs.declared.outcome.Reason.{Reason};
-ghost use Rattle.doip_segment.specs.Decoding.{IsStanding, IsStuck, Took, Frames, outcome_of, end_of};
+ghost use Rattle.doip_segment.specs.Decoding.{IsStanding, IsStuck, Took, Frames, ReadsMessage, WaitsForMore, EndsBetween, outcome_of, end_of};
 
 use crate::class::{Class, classify};
 use crate::kind::Kind;
@@ -97,6 +97,7 @@ impl Decoder {
         requires total { limits.total ≤ 67108864 }
         ensures limits { IfOk result (λ d. d.limits ≡ limits) }
         ensures reading { IfOk result (λ d. d.reading ≡ start) }
+        ensures took { IfOk result (λ d. Took d []) }
         ensures taken { IfOk result (λ d. d.taken ≡ 0) }
     {
         let message = Message::with_room(alloc, limits.total as usize, SEGMENTS)?;
@@ -284,6 +285,11 @@ impl Decoder {
         ensures framing { (came : List ℕ) → Took self.old came
             → Frames self.old.limits came piece.now result.0 result.1 self.new.reading.segments }
         ensures took { (came : List ℕ) → Took self.old came → Took self.new (came ++ take result.0 piece.now) }
+        // A message within the limits is read, in whatever pieces it comes.
+        ensures reads { (came : List ℕ) → Took self.old came
+            → ReadsMessage self.old.limits came piece.now result.0 result.1 self.new.reading.segments }
+        ensures waits { (came : List ℕ) → Took self.old came
+            → WaitsForMore self.old.limits came piece.now result.0 result.1 }
 
         ensures outcome { result.1 ≡ outcome_of self.new.reading.phase self.new.taken }
         ensures stood { IsStanding self.old → (result ≡ (0, Step.Message)) × (self.new ≡ self.old) }
@@ -333,7 +339,8 @@ impl Decoder {
     /// Drops the message that stands, if one does. Where none stands nothing changes.
     pub fn clear(&mut self)
         ensures limits { self.new.limits ≡ self.old.limits }
-        ensures stood { IsStanding self.old → self.new.reading ≡ start }
+        ensures stood { IsStanding self.old → (self.new.reading ≡ start) × Took self.new [] }
+        ensures other { ¬ IsStanding self.old → self.new ≡ self.old }
         ensures taken { self.new.taken ≡ self.old.taken }
     {
         if self.stands() {
@@ -345,14 +352,23 @@ impl Decoder {
     pub fn restart(&mut self)
         ensures limits { self.new.limits ≡ self.old.limits }
         ensures reading { self.new.reading ≡ start }
+        ensures took { Took self.new [] }
         ensures taken { self.new.taken ≡ 0 }
     {
         self.begin();
         self.taken = 0;
     }
 
-    /// Where the session stands if no byte more comes.
+    /// Where the session stands if no byte more comes: between messages where one stands, or where no fault does and only
+    /// white bytes came since the last one. Else inside, with the fault's place or the number of bytes taken.
     pub fn finish(&self) -> End
+        ensures between { (came : List ℕ) → Took self.now came → (result ≡ End.Between) ↔ EndsBetween self.now came }
+        ensures ending { result ≡ end_of self.now.reading.phase self.now.reading.segments self.now.taken }
+    {
+        self.ending()
+    }
+
+    fn ending(&self) -> End
         ensures { result ≡ end_of self.now.reading.phase self.now.reading.segments self.now.taken }
     {
         match self.phase {
