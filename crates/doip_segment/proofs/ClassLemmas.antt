@@ -31,7 +31,7 @@ digit_fails b e = grind (arith, nat_tests)
 pub eq_tests : (a b : ℕ) → eqb a b ≡ true → a ≡ b
 eq_tests a b e = grind (arith, nat_tests)
 
-eq_fails : (a b : ℕ) → eqb a b ≡ false → a ≢ b
+pub eq_fails : (a b : ℕ) → eqb a b ≡ false → a ≢ b
 eq_fails a b e = grind (arith, nat_tests)
 
 by_tests : (b : ℕ) (t1 t2 t3 t4 t5 : Bool) → eqb b 10 ≡ t1 → (eqb b 32 || eqb b 9 || eqb b 13) ≡ t2 → eqb b 35 ≡ t3 → eqb b 64 ≡ t4 → (leb 48 b && leb b 57) ≡ t5 → Classified b (cond t1 LineFeed (cond t2 Blank (cond t3 Hash (cond t4 At (cond t5 (Digit (b - 48)) Other)))))

@@ -183,7 +183,7 @@ range_step MessageEnd _ is small = tt
 range_step Whole _ is small = tt
 range_step (Stuck reason) _ is small = tt
 
-few_step : (p : Phase) (c : Class) (n : ℕ) → n + opened p ≤ 2048 → (begins p c ≡ true → n < 2048) → n + opened p + starts (begins p c) ≤ 2048
+pub few_step : (p : Phase) (c : Class) (n : ℕ) → n + opened p ≤ 2048 → (begins p c ≡ true → n < 2048) → n + opened p + starts (begins p c) ≤ 2048
 few_step Due At n le few = omega (arith, few refl)
 few_step Due (Digit d) n le few = omega (arith, few refl)
 few_step Due Other n le few = omega (arith, few refl)

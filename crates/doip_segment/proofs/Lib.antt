@@ -2,3 +2,13 @@ pub mod PlaceLemmas
 pub mod ClassLemmas
 pub mod RunLemmas
 pub mod FitLemmas
+pub mod WalkLemmas
+pub mod TellLemmas
+pub mod PositionLemmas
+pub mod CleanLemmas
+pub mod FramingLemmas
+pub mod SpeltLemmas
+pub mod LawLemmas
+pub mod FeedLemmas
+pub mod CanonicalLemmas
+pub mod AnswerLemmas

@@ -1,5 +1,5 @@
 -- What contracts see of a decoder.
-use Rattle.std.specs.Prelude.{◌≡◌, ℕ, ◌+◌, ◌≤◌, ◌<◌, List, [], length, Bool, true, false, IsTrue}
+use Rattle.std.specs.Prelude.{◌≡◌, ℕ, ◌+◌, ◌≤◌, ◌<◌, ◌⊎◌, List, [], ◌∷◌, ◌++◌, length, take, Bool, true, false, IsTrue}
 use Rattle.doip_segment.specs.declared.outcome.Limits.{Limits}
 use Rattle.doip_segment.specs.declared.outcome.Reason.{Reason}
 use Rattle.doip_segment.specs.declared.outcome.End.{End}
@@ -9,6 +9,9 @@ use Rattle.doip_segment.specs.declared.outcome.Step.TheVariants as steps
 use Rattle.doip_segment.specs.declared.phase.Phase.{Phase}
 use Rattle.doip_segment.specs.declared.phase.Phase.TheVariants.{Due, Text, LineStart, JsonEnd, BytesStart, ChunkDue, Digits, Padding, Data, DataEnd, BytesEnd, MessageEnd, Whole, Stuck}
 use Rattle.doip_segment.specs.Segments.{Segment, Held}
+use Rattle.std.specs.List.{AllByRecursion}
+use Rattle.doip_segment.specs.Grammar.{IsWhite}
+use Rattle.doip_segment.specs.Framing.{Spelt, NothingSpelt, Broken, IsUnfinished}
 use Rattle.doip_segment.specs.Machine.{Reading, start, run, IsInRange}
 
 -- a decoder: its limits, what it has read since the last message, and how many bytes it took, or 2^64 - 1 where there were more
@@ -68,3 +71,22 @@ abbrev pub end_of : Phase → List Segment → ℕ → End
 end_of Whole segments taken = ends.Between
 end_of Due [] taken = ends.Between
 end_of _ segments taken = ends.Inside taken
+
+-- What feed says of the bytes taken since the last message and a piece that comes behind them: how many bytes of it were
+-- taken, and what stands then. A message's last byte and a fault's byte are the last that are taken.
+abbrev pub Frames : Limits → List ℕ → List ℕ → ℕ → Step → List Segment → Type 0
+Frames limits came piece used steps.More segments = (used ≡ length piece) × IsUnfinished limits (came ++ piece)
+Frames limits came piece used steps.Message segments = Spelt limits (came ++ take used piece) segments
+Frames limits came piece used (steps.Fault place reason) segments = Broken limits (came ++ piece) (length came + used) reason × NothingSpelt limits (came ++ piece)
+
+-- A message that the bytes begin with is answered at its end, whatever comes behind it.
+abbrev pub ReadsMessage : Limits → List ℕ → List ℕ → ℕ → Step → List Segment → Type 0
+ReadsMessage limits came piece used step segments = (front behind : List ℕ) (message : List Segment) → Spelt limits front message → came ++ piece ≡ front ++ behind → (step ≡ steps.Message) × (length came + used ≡ length front) × (segments ≡ message)
+
+-- Of a message that isn't whole yet all bytes are taken.
+abbrev pub WaitsForMore : Limits → List ℕ → List ℕ → ℕ → Step → Type 0
+WaitsForMore limits came piece used step = (next : ℕ) (more : List ℕ) (message : List Segment) → Spelt limits (came ++ piece ++ next ∷ more) message → (used ≡ length piece) × (step ≡ steps.More)
+
+-- A message stands, or no fault does and only white bytes came since the last one.
+abbrev pub EndsBetween : Decoding → List ℕ → Type 0
+EndsBetween d came = IsStanding d ⊎ (((reason : Reason) → ¬ IsStuck d reason) × AllByRecursion IsWhite came)

@@ -122,3 +122,8 @@ pub record Broken (limits : Limits) (bytes : List ℕ) (place : ℕ) (reason : R
   pub at : place ≡ length front + 1
   pub fault : IsFault limits front byte reason
   pub first : (before : List ℕ) (b : ℕ) (after : List ℕ) (other : Reason) → bytes ≡ before ++ b ∷ after → length before < length front → IsFault limits before b other → ⊥
+
+-- No front of the bytes is a message, and they break nowhere: more bytes are needed.
+pub record IsUnfinished (limits : Limits) (bytes : List ℕ) : Type 0 where
+  pub unspelt : NothingSpelt limits bytes
+  pub unbroken : (place : ℕ) (reason : Reason) → Broken limits bytes place reason → ⊥

@@ -1,8 +1,9 @@
 //! The decoder: it looks at each byte of a session once, and copies contents by slices.
 
-ghost use Rattle.std.specs.Prelude.{◌≡◌, ◌≢◌, ◌+◌, ◌-◌, ◌≤◌, ◌<◌, ◌^◌, ◌↔◌, ◌||◌, min, [], ◌∷◌, ◌++◌, length, take, true, false, IsTrue, IsSome, IfOk, Some, None};
+ghost use Rattle.std.specs.Prelude.{◌≡◌, ◌≢◌, ◌+◌, ◌-◌, ◌≤◌, ◌<◌, ◌^◌, ◌↔◌, ◌||◌, ℕ, List, min, [], ◌∷◌, ◌++◌, length, take, true, false, IsTrue, IsSome, IfOk, Some, None};
 ghost use Rattle.doip_segment.specs.Machine.{class_of, passes_json, begins, closed, added, kept, limit_fault, is_done, start, run, advanced};
-ghost use Rattle.doip_segment.specs.Decoding.{IsStanding, outcome_of, end_of};
+ghost use Rattle.doip_segment.specs.declared.outcome.Reason.{Reason};
+ghost use Rattle.doip_segment.specs.Decoding.{IsStanding, IsStuck, Took, Frames, ReadsMessage, WaitsForMore, EndsBetween, outcome_of, end_of};
 
 use crate::class::{Class, classify};
 use crate::kind::Kind;
@@ -96,6 +97,7 @@ impl Decoder {
         requires total { limits.total ≤ 67108864 }
         ensures limits { IfOk result (λ d. d.limits ≡ limits) }
         ensures reading { IfOk result (λ d. d.reading ≡ start) }
+        ensures took { IfOk result (λ d. Took d []) }
         ensures taken { IfOk result (λ d. d.taken ≡ 0) }
     {
         let message = Message::with_room(alloc, limits.total as usize, SEGMENTS)?;
@@ -145,6 +147,7 @@ impl Decoder {
         requires { is_done self.old.reading.phase ≡ false }
         ensures limits { self.new.limits ≡ self.old.limits }
         ensures reading { self.new.reading ≡ advanced self.old.limits self.old.reading byte }
+        ensures count { self.new.reading.count ≡ self.old.reading.count + 1 }
         ensures taken { self.new.taken ≡ min (self.old.taken + 1) (2 ^ 64 - 1) }
     {
         let class = classify(byte);
@@ -170,6 +173,7 @@ impl Decoder {
         ensures within { result ≤ length rest.now }
         ensures limits { self.new.limits ≡ self.old.limits }
         ensures reading { self.new.reading ≡ run self.old.limits self.old.reading (take result rest.now) }
+        ensures count { self.new.reading.count ≡ self.old.reading.count + result }
         ensures taken { self.new.taken ≡ min (self.old.taken + result) (2 ^ 64 - 1) }
     {
         let text = (self.limits.json as usize + 1).saturating_sub(self.message.pending());
@@ -203,6 +207,7 @@ impl Decoder {
         ensures within { result ≤ length rest.now }
         ensures limits { self.new.limits ≡ self.old.limits }
         ensures reading { self.new.reading ≡ run self.old.limits self.old.reading (take result rest.now) }
+        ensures count { self.new.reading.count ≡ self.old.reading.count + result }
         ensures taken { self.new.taken ≡ min (self.old.taken + result) (2 ^ 64 - 1) }
     {
         let total = self.limits.total.saturating_sub(self.count) as usize;
@@ -226,6 +231,7 @@ impl Decoder {
         ensures within { result ≤ length rest.now }
         ensures limits { self.new.limits ≡ self.old.limits }
         ensures reading { self.new.reading ≡ run self.old.limits self.old.reading (take result rest.now) }
+        ensures count { self.new.reading.count ≡ self.old.reading.count + result }
         ensures taken { self.new.taken ≡ min (self.old.taken + result) (2 ^ 64 - 1) }
     {
         match self.phase {
@@ -252,23 +258,49 @@ impl Decoder {
         }
     }
 
-    /// Takes bytes up to the end of the first whole message, or up to and with the byte at a fault's place, or the whole
-    /// piece, and tells how many it took. While a message stands it answers `(0, Message)`, and after a fault `(0, Fault)`
-    /// with that fault. It takes no memory, and looks at each byte once.
-    pub fn feed(&mut self, piece: &[u8]) -> (usize, Step)
-        ensures within { result.0 ≤ length piece.now }
-        ensures more { result.1 ≡ Step.More → result.0 ≡ length piece.now }
-        ensures outcome { result.1 ≡ outcome_of self.new.reading.phase self.new.taken }
-
+    /// Takes bytes as long as nothing is done, and tells how many.
+    fn take_all(&mut self, piece: &[u8]) -> usize
+        ensures within { result ≤ length piece.now }
+        ensures all { is_done self.new.reading.phase ≡ false → result ≡ length piece.now }
+        ensures done { is_done self.old.reading.phase ≡ true → (result ≡ 0) × (self.new ≡ self.old) }
         ensures limits { self.new.limits ≡ self.old.limits }
-        ensures reading { self.new.reading ≡ run self.old.limits self.old.reading (take result.0 piece.now) }
-        ensures taken { self.new.taken ≡ min (self.old.taken + result.0) (2 ^ 64 - 1) }
+        ensures reading { self.new.reading ≡ run self.old.limits self.old.reading (take result piece.now) }
+        ensures count { self.new.reading.count ≡ self.old.reading.count + result }
+        ensures taken { self.new.taken ≡ min (self.old.taken + result) (2 ^ 64 - 1) }
     {
         let _ = &self.taken;
         let mut used = 0;
         while used < piece.len() && !self.is_done() {
             used += self.take_some(&piece[used..]);
         }
+        used
+    }
+
+    /// Takes bytes up to the end of the first whole message, or up to and with the byte at a fault's place, or the whole
+    /// piece, and tells how many it took. While a message stands it answers `(0, Message)`, and after a fault `(0, Fault)`
+    /// with that fault. It takes no memory, and looks at each byte once.
+    pub fn feed(&mut self, piece: &[u8]) -> (usize, Step)
+        ensures within { result.0 ≤ length piece.now }
+        // What the bytes taken since the last message are, and this piece behind them.
+        ensures framing { (came : List ℕ) → Took self.old came
+            → Frames self.old.limits came piece.now result.0 result.1 self.new.reading.segments }
+        ensures took { (came : List ℕ) → Took self.old came → Took self.new (came ++ take result.0 piece.now) }
+        // A message within the limits is read, in whatever pieces it comes.
+        ensures reads { (came : List ℕ) → Took self.old came
+            → ReadsMessage self.old.limits came piece.now result.0 result.1 self.new.reading.segments }
+        ensures waits { (came : List ℕ) → Took self.old came
+            → WaitsForMore self.old.limits came piece.now result.0 result.1 }
+
+        ensures outcome { result.1 ≡ outcome_of self.new.reading.phase self.new.taken }
+        ensures stood { IsStanding self.old → (result ≡ (0, Step.Message)) × (self.new ≡ self.old) }
+        ensures stuck { (reason : Reason) → IsStuck self.old reason
+            → (result ≡ (0, Step.Fault self.old.taken reason)) × (self.new ≡ self.old) }
+        ensures more { result.1 ≡ Step.More → result.0 ≡ length piece.now }
+
+        ensures limits { self.new.limits ≡ self.old.limits }
+        ensures taken { self.new.taken ≡ min (self.old.taken + result.0) (2 ^ 64 - 1) }
+    {
+        let used = self.take_all(piece);
         (used, self.outcome())
     }
 
@@ -307,7 +339,8 @@ impl Decoder {
     /// Drops the message that stands, if one does. Where none stands nothing changes.
     pub fn clear(&mut self)
         ensures limits { self.new.limits ≡ self.old.limits }
-        ensures stood { IsStanding self.old → self.new.reading ≡ start }
+        ensures stood { IsStanding self.old → (self.new.reading ≡ start) × Took self.new [] }
+        ensures other { ¬ IsStanding self.old → self.new ≡ self.old }
         ensures taken { self.new.taken ≡ self.old.taken }
     {
         if self.stands() {
@@ -319,14 +352,23 @@ impl Decoder {
     pub fn restart(&mut self)
         ensures limits { self.new.limits ≡ self.old.limits }
         ensures reading { self.new.reading ≡ start }
+        ensures took { Took self.new [] }
         ensures taken { self.new.taken ≡ 0 }
     {
         self.begin();
         self.taken = 0;
     }
 
-    /// Where the session stands if no byte more comes.
+    /// Where the session stands if no byte more comes: between messages where one stands, or where no fault does and only
+    /// white bytes came since the last one. Else inside, with the fault's place or the number of bytes taken.
     pub fn finish(&self) -> End
+        ensures between { (came : List ℕ) → Took self.now came → (result ≡ End.Between) ↔ EndsBetween self.now came }
+        ensures ending { result ≡ end_of self.now.reading.phase self.now.reading.segments self.now.taken }
+    {
+        self.ending()
+    }
+
+    fn ending(&self) -> End
         ensures { result ≡ end_of self.now.reading.phase self.now.reading.segments self.now.taken }
     {
         match self.phase {

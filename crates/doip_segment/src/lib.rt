@@ -5,6 +5,7 @@ mod class;
 mod decoder;
 mod encoder;
 mod kind;
+mod laws;
 mod message;
 mod outcome;
 mod phase;
@@ -12,6 +13,10 @@ mod phase;
 pub use decoder::Decoder;
 pub use encoder::{encode, is_plain};
 pub use kind::Kind;
+pub use laws::{
+    canonical_is_a_spelling, each_stream_breaks_once, each_stream_has_one_framing,
+    no_spelling_begins_another,
+};
 pub use message::Message;
 pub use outcome::{End, Limits, Reason, Step};
 

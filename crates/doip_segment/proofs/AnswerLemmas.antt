@@ -1,0 +1,172 @@
+-- What the decoder answers to bytes that are known to be a message, or a part of one, and at a session's end.
+use Rattle.std.proofs.Common.{◌≡◌, ℕ, zero, suc, ◌+◌, ◌-◌, ◌≤◌, ◌<◌, ◌⊎◌, inl, inr, List, [], ◌∷◌, ◌++◌, length, map, take, drop, Bool, true, false, refl, sym, ap, ◌∙◌, subst, arith, append_assoc, length-append}
+use Rattle.std.specs.List.{flat_map, AllByRecursion}
+use Rattle.std.proofs.lemmas.List.{append-nil, take-append-drop, length-take-le, length-drop}
+use Rattle.doip_segment.specs.declared.outcome.Limits.{Limits}
+use Rattle.doip_segment.specs.declared.outcome.Reason.{Reason}
+use Rattle.doip_segment.specs.declared.outcome.Step.{Step}
+use Rattle.doip_segment.specs.declared.outcome.Step.TheVariants as steps
+use Rattle.doip_segment.specs.declared.phase.Phase.{Phase}
+use Rattle.doip_segment.specs.declared.phase.Phase.TheVariants.{Due, Text, LineStart, JsonEnd, BytesStart, ChunkDue, Digits, Padding, Data, DataEnd, BytesEnd, MessageEnd, Whole, Stuck}
+use Rattle.doip_segment.specs.Segments.{Segment}
+use Rattle.doip_segment.specs.Grammar.{IsWhite, Part, part_bytes, segment_of_part}
+use Rattle.doip_segment.specs.Framing.{Spelt}
+use Rattle.doip_segment.specs.Machine.{run, is_done, Reading, start}
+use Rattle.doip_segment.specs.declared.outcome.End.TheVariants as ends
+use Rattle.doip_segment.specs.Decoding.{Decoding, Took, EndsBetween, outcome_of, end_of}
+use Rattle.doip_segment.proofs.WalkLemmas.{Core, core, walk, outset, white_walk}
+use Rattle.doip_segment.proofs.TellLemmas.{Told, told_at}
+use Rattle.doip_segment.proofs.CleanLemmas.{go, core_of, core_go, Clean, Breaks, reach, clean_live}
+use Rattle.doip_segment.proofs.SpeltLemmas.{ReadsTo, spelt_clean, clean_run, spelt_run, run_behind}
+use Rattle.doip_segment.proofs.LawLemmas.{Longer, two_fronts}
+use Rattle.doip_segment.proofs.CleanLemmas.{clean_front}
+
+-- the bytes that were taken, and the rest of the piece
+taken_rest : (came piece : List ℕ) (used : ℕ) → (came ++ take used piece) ++ drop used piece ≡ came ++ piece
+taken_rest came piece used = append_assoc came (take used piece) (drop used piece) ∙ ap (λ x. came ++ x) (take-append-drop used piece)
+
+-- before the end of a spelling nothing is done
+pub inside_live : (limits : Limits) (bytes : List ℕ) (b : ℕ) (more : List ℕ) (message : List Segment) → Spelt limits (bytes ++ b ∷ more) message → is_done (run limits start bytes).phase ≡ false
+inside_live limits bytes b more message spelt =
+    let clean = spelt_clean limits (bytes ++ b ∷ more) message spelt in
+    let front = clean_front limits start bytes (b ∷ more) clean in
+    ap (λ (r : Reading). is_done r.phase) (clean_run limits start bytes front) ∙ clean_live limits start bytes b more clean
+
+live_more : (p : Phase) (taken : ℕ) → is_done p ≡ false → outcome_of p taken ≡ steps.More
+live_more Whole taken live = absurd (let h : true ≡ false = live in cc)
+live_more (Stuck reason) taken live = absurd (let h : true ≡ false = live in cc)
+live_more Due taken live = refl
+live_more Text taken live = refl
+live_more LineStart taken live = refl
+live_more JsonEnd taken live = refl
+live_more BytesStart taken live = refl
+live_more ChunkDue taken live = refl
+live_more (Digits n v) taken live = refl
+live_more (Padding v) taken live = refl
+live_more (Data left) taken live = refl
+live_more DataEnd taken live = refl
+live_more BytesEnd taken live = refl
+live_more MessageEnd taken live = refl
+
+rest_live : (limits : Limits) (bytes rest : List ℕ) (b : ℕ) (more : List ℕ) (message : List Segment) → Spelt limits (bytes ++ (rest ++ b ∷ more)) message → is_done (run limits start bytes).phase ≡ false
+rest_live limits bytes [] b more message spelt = inside_live limits bytes b more message spelt
+rest_live limits bytes (c ∷ rest) b more message spelt = inside_live limits bytes c (rest ++ b ∷ more) message spelt
+
+-- a part of a spelling needs more
+pub part_answers : (limits : Limits) (r : Reading) (came piece : List ℕ) (used taken b : ℕ) (more : List ℕ) (message : List Segment) (step : Step) → r ≡ run limits start (came ++ take used piece) → (is_done r.phase ≡ false → used ≡ length piece) → step ≡ outcome_of r.phase taken → Spelt limits (came ++ piece ++ b ∷ more) message → (used ≡ length piece) × (step ≡ steps.More)
+part_answers limits r came piece used taken b more message step is all at spelt =
+    let bytes = came ++ take used piece in
+    let rest = drop used piece in
+    let whole : came ++ piece ++ b ∷ more ≡ bytes ++ (rest ++ b ∷ more) = ap (λ x. x ++ b ∷ more) (sym (taken_rest came piece used)) ∙ append_assoc bytes rest (b ∷ more) in
+    let live = ap (λ (x : Reading). is_done x.phase) is ∙ rest_live limits bytes rest b more message (subst (λ (x : List ℕ). Spelt limits x message) whole spelt) in
+    (all live, at ∙ live_more r.phase taken live)
+
+-- what feed answers at the end of a spelling
+pub record AtEnd (r : Reading) (came front : List ℕ) (n : ℕ) (message : List Segment) : Type 0 where
+  pub phase : r.phase ≡ Whole
+  pub segments : r.segments ≡ message
+  pub used : length came + n ≡ length front
+
+at_end : (limits : Limits) (r : Reading) (came piece front : List ℕ) (n : ℕ) (message : List Segment) → n ≤ length piece → r ≡ run limits start (came ++ take n piece) → came ++ take n piece ≡ front → Spelt limits front message → AtEnd r came front n message
+at_end limits r came piece front n message within is same spelt =
+    let reads = spelt_run limits front message spelt in
+    let here = is ∙ ap (run limits start) same in
+    record {
+      phase = ap (λ (x : Reading). x.phase) here ∙ reads.phase;
+      segments = ap (λ (x : Reading). x.segments) here ∙ reads.segments;
+      used = sym (length-append came (take n piece) ∙ ap (λ m. length came + m) (length-take-le n piece within)) ∙ ap length same;
+    }
+
+-- the bytes taken end before the spelling does, or with it
+end_longer : (limits : Limits) (r : Reading) (came piece front behind : List ℕ) (n : ℕ) (message : List Segment) → n ≤ length piece → r ≡ run limits start (came ++ take n piece) → (is_done r.phase ≡ false → n ≡ length piece) → Spelt limits front message → (came ++ take n piece) ++ drop n piece ≡ front ++ behind → (more : List ℕ) → front ≡ (came ++ take n piece) ++ more → AtEnd r came front n message
+end_longer limits r came piece front behind n message within is all spelt joined [] at = at_end limits r came piece front n message within is (sym (at ∙ append-nil (came ++ take n piece))) spelt
+end_longer limits r came piece front behind n message within is all spelt joined (b ∷ more) at =
+    let bytes = came ++ take n piece in
+    let live = ap (λ (x : Reading). is_done x.phase) is ∙ inside_live limits bytes b more message (subst (λ (x : List ℕ). Spelt limits x message) at spelt) in
+    let size = all live in
+    let none = length-drop n piece in
+    let left = sym (length-append bytes (drop n piece)) ∙ ap length joined ∙ length-append front behind in
+    let right = ap length at ∙ length-append bytes (b ∷ more) in
+    absurd (omega (arith, size, none, left, right))
+
+-- the bytes taken go on behind the spelling: there are none there
+end_shorter : (limits : Limits) (r : Reading) (came piece front : List ℕ) (n : ℕ) (message : List Segment) → n ≤ length piece → r ≡ run limits start (came ++ take n piece) → r.count ≡ length (came ++ take n piece) → Spelt limits front message → (more : List ℕ) → came ++ take n piece ≡ front ++ more → AtEnd r came front n message
+end_shorter limits r came piece front n message within is counted spelt [] at = at_end limits r came piece front n message within is (at ∙ append-nil front) spelt
+end_shorter limits r came piece front n message within is counted spelt (b ∷ more) at =
+    let reads = spelt_run limits front message spelt in
+    let same = is ∙ ap (run limits start) at ∙ run_behind limits front (b ∷ more) (ap is_done reads.phase) in
+    let count = sym (ap (λ (x : Reading). x.count) same) ∙ counted ∙ ap length at ∙ length-append front (b ∷ more) in
+    absurd (omega (arith, count, reads.count))
+
+pub end_answers : (limits : Limits) (r : Reading) (came piece front behind : List ℕ) (n : ℕ) (message : List Segment) → n ≤ length piece → r ≡ run limits start (came ++ take n piece) → r.count ≡ length (came ++ take n piece) → (is_done r.phase ≡ false → n ≡ length piece) → Spelt limits front message → came ++ piece ≡ front ++ behind → AtEnd r came front n message
+end_answers limits r came piece front behind n message within is counted all spelt e =
+    let bytes = came ++ take n piece in
+    let joined = taken_rest came piece n ∙ e in
+    elim (two_fronts bytes (drop n piece) front behind joined) [
+      | inl longer ↦ end_longer limits r came piece front behind n message within is all spelt joined longer.more longer.is
+      | inr longer ↦ end_shorter limits r came piece front n message within is counted spelt longer.more longer.is
+    ]
+
+-- only white bytes
+white_only : (parts : List Part) (tail bytes : List ℕ) → [] ≡ map segment_of_part parts → bytes ≡ flat_map part_bytes parts ++ tail → bytes ≡ tail
+white_only [] tail bytes none is = is
+white_only (p ∷ ps) tail bytes none is = absurd (cc)
+
+pub white_told : (limits : Limits) (bytes : List ℕ) → (run limits start bytes).count ≡ length bytes → (run limits start bytes).phase ≡ Due → (run limits start bytes).segments ≡ [] → AllByRecursion IsWhite bytes
+white_told limits bytes counted due none =
+    elim (reach limits start bytes (counted ∙ (let e : length bytes ≡ 0 + length bytes = omega arith in e))) [
+      | inl clean ↦ (
+          let r = go start bytes in
+          let phase : r.phase ≡ Due = sym (ap (λ (x : Reading). x.phase) clean.1) ∙ due in
+          let segments : r.segments ≡ [] = sym (ap (λ (x : Reading). x.segments) clean.1) ∙ none in
+          let t = told_at (core r.segments r.pending Due) bytes (sym (core_go start bytes) ∙ ap (core r.segments r.pending) phase) in
+          subst (AllByRecursion IsWhite) (sym (white_only t.parts t.tail bytes (sym segments ∙ t.says) t.is)) t.behind.1
+          )
+      | inr broke ↦ absurd (let h : Stuck broke.reason ≡ Due = sym broke.phase ∙ due in cc)
+    ]
+
+pub white_reads : (limits : Limits) (bytes : List ℕ) → (run limits start bytes).count ≡ length bytes → AllByRecursion IsWhite bytes → ((reason : Reason) → (run limits start bytes).phase ≡ Stuck reason → ⊥) → ((run limits start bytes).phase ≡ Due) × ((run limits start bytes).segments ≡ [])
+white_reads limits bytes counted white free =
+    elim (reach limits start bytes (counted ∙ (let e : length bytes ≡ 0 + length bytes = omega arith in e))) [
+      | inl clean ↦ (
+          let at = core_go start bytes ∙ white_walk [] bytes white in
+          (ap (λ (x : Reading). x.phase) clean.1 ∙ ap (λ (s : Core). s.phase) at, ap (λ (x : Reading). x.segments) clean.1 ∙ ap (λ (s : Core). s.segments) at)
+          )
+      | inr broke ↦ absurd (free broke.reason broke.phase)
+    ]
+
+between_is : (p : Phase) (segments : List Segment) (taken : ℕ) → end_of p segments taken ≡ ends.Between → (p ≡ Whole) ⊎ ((p ≡ Due) × (segments ≡ []))
+between_is Whole segments taken e = inl refl
+between_is Due [] taken e = inr (refl, refl)
+between_is Due (s ∷ ss) taken e = absurd (cc)
+between_is (Stuck reason) segments taken e = absurd (cc)
+between_is Text segments taken e = absurd (cc)
+between_is LineStart segments taken e = absurd (cc)
+between_is JsonEnd segments taken e = absurd (cc)
+between_is BytesStart segments taken e = absurd (cc)
+between_is ChunkDue segments taken e = absurd (cc)
+between_is (Digits n v) segments taken e = absurd (cc)
+between_is (Padding v) segments taken e = absurd (cc)
+between_is (Data left) segments taken e = absurd (cc)
+between_is DataEnd segments taken e = absurd (cc)
+between_is BytesEnd segments taken e = absurd (cc)
+between_is MessageEnd segments taken e = absurd (cc)
+
+-- a session ends between messages where a message stands, or where no fault does and only white bytes came since the last one
+pub ends_between : (d : Decoding) (came : List ℕ) → Took d came → end_of d.reading.phase d.reading.segments d.taken ≡ ends.Between → EndsBetween d came
+ends_between d came took e =
+    let counted = sym (ap (λ (x : Reading). x.count) took.0) ∙ took.1 in
+    elim (between_is d.reading.phase d.reading.segments d.taken e) [
+      | inl whole ↦ inl whole
+      | inr due ↦ inr (
+        (λ reason stuck. let h : Due ≡ Stuck reason = sym due.0 ∙ stuck in cc),
+        white_told d.limits came counted (sym (ap (λ (x : Reading). x.phase) took.0) ∙ due.0) (sym (ap (λ (x : Reading). x.segments) took.0) ∙ due.1),
+      )
+    ]
+
+pub between_ends : (d : Decoding) (came : List ℕ) → Took d came → EndsBetween d came → end_of d.reading.phase d.reading.segments d.taken ≡ ends.Between
+between_ends d came took (inl whole) = ap (λ p. end_of p d.reading.segments d.taken) whole
+between_ends d came took (inr white) =
+    let counted = sym (ap (λ (x : Reading). x.count) took.0) ∙ took.1 in
+    let reads = white_reads d.limits came counted white.1 (λ reason stuck. white.0 reason (ap (λ (x : Reading). x.phase) took.0 ∙ stuck)) in
+    ap (λ p. end_of p d.reading.segments d.taken) (ap (λ (x : Reading). x.phase) took.0 ∙ reads.0) ∙ ap (λ ss. end_of Due ss d.taken) (ap (λ (x : Reading). x.segments) took.0 ∙ reads.1)

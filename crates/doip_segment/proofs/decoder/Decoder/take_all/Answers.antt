@@ -1,0 +1,35 @@
+use Rattle.std.proofs.Common.{◌≡◌, ◌+◌, ◌-◌, ◌≤◌, ◌<◌, ◌^◌, min, true, false, length, take, drop, List, ℕ, ap, sym, ◌∙◌, arith, refl}
+use Rattle.std.proofs.lemmas.List.{take_rest, length-drop}
+use Rattle.doip_segment.specs.Decoding.{Decoding}
+use Rattle.doip_segment.specs.Machine.{run, is_done}
+use Rattle.doip_segment.proofs.RunLemmas.{run_on}
+use Rattle.doip_segment.proofs.decoder.Decoder.take_all.Goals as goal
+
+pub loop-used-init : goal.loop-used-init
+loop-used-init c =
+    let seen = ap (λ (v : Decoding). v.taken) c.self.view_is in
+    record {
+      within = omega arith;
+      done = λ done. (refl, refl);
+      limits = refl;
+      reading = refl;
+      count = omega arith;
+      taken = omega (arith, seen, c.self.ranges);
+    }
+
+pub loop-used-preserved : goal.loop-used-preserved
+loop-used-preserved c =
+    let piece = c.args.piece.now in
+    let before = c.loop-used.invariant in
+    let after = c.take_some-used.ensures in
+    let rest = take_rest piece c.loop-used.used in
+    let size = ap length rest ∙ length-drop c.loop-used.used piece in
+    let step = after.reading ∙ ap (λ limits. run limits c.loop-used.self.reading (take c.take_some-used.result (take (length piece - c.loop-used.used) (drop c.loop-used.used piece)))) before.limits in
+    record {
+      within = omega (arith, after.within, size, before.within);
+      done = λ done. absurd (let same = (before.done done).1 in let h : true ≡ false = sym done ∙ sym (ap (λ (v : Decoding). is_done v.reading.phase) same) ∙ sym c.is_done.ensures ∙ c.if-not-is_done.true in cc);
+      limits = after.limits ∙ before.limits;
+      reading = run_on c.args.self.now.limits c.args.self.now.reading c.loop-used.self.reading c.take_some-used.new.self.reading c.loop-used.used c.take_some-used.result piece _ before.within before.reading rest step;
+      count = omega (arith, after.count, before.count);
+      taken = omega (arith, after.taken, before.taken);
+    }

@@ -1,0 +1,40 @@
+//! Laws of spellings and framings: each is the contract of a function that does nothing.
+
+ghost use Rattle.std.specs.Prelude.{◌≡◌, ◌++◌, ℕ, List, []};
+ghost use Rattle.doip_segment.specs.declared.outcome.Limits.{Limits};
+ghost use Rattle.doip_segment.specs.declared.outcome.Reason.{Reason};
+ghost use Rattle.doip_segment.specs.Segments.{Segment};
+ghost use Rattle.doip_segment.specs.Grammar.{IsSpelling};
+ghost use Rattle.doip_segment.specs.Canonical.{AreEncodable, canonical};
+ghost use Rattle.doip_segment.specs.Framing.{Framed, Broken};
+
+/// No spelling is a proper front of another, and each is a spelling of one message.
+pub fn no_spelling_begins_another()
+    ensures { (bytes behind : List ℕ) (message other : List Segment)
+        → IsSpelling bytes message → IsSpelling (bytes ++ behind) other → (behind ≡ []) × (message ≡ other) }
+{
+}
+
+/// Each list of bytes is framed in exactly one way.
+pub fn each_stream_has_one_framing()
+    ensures some { (limits : Limits) (bytes : List ℕ)
+        → (messages : List (List Segment)) × (rest : List ℕ) × Framed limits bytes messages rest }
+    ensures only { (limits : Limits) (bytes : List ℕ) (messages others : List (List Segment)) (rest remains : List ℕ)
+        → Framed limits bytes messages rest → Framed limits bytes others remains
+        → (messages ≡ others) × (rest ≡ remains) }
+{
+}
+
+/// Bytes break at one place at most, and for one reason.
+pub fn each_stream_breaks_once()
+    ensures { (limits : Limits) (bytes : List ℕ) (place other : ℕ) (reason second : Reason)
+        → Broken limits bytes place reason → Broken limits bytes other second
+        → (place ≡ other) × (reason ≡ second) }
+{
+}
+
+/// What the encoder writes is a spelling of the message.
+pub fn canonical_is_a_spelling()
+    ensures { (message : List Segment) → AreEncodable message → IsSpelling (canonical message) message }
+{
+}
