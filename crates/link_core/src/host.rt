@@ -37,7 +37,7 @@ pub trait Host {
     /// `Failed` where the host's count of faults rose, and always where its count of links stands at 2^64 - 1;
     /// `Memory` for want of memory. The host then holds what it held.
     fn console(&mut self) -> Result<Self::Link, HostFault>
-        ensures handed { HandsOut Self.Link.left (consoles self.old) (consoles self.new) result }
+        ensures handed { HandsOut Self.Link.left Self.Link.taken Self.Link.written (consoles self.old) (consoles self.new) result }
         ensures fresh { IfOk result (λ link. IsFresh Self.Link.faults Self.Link.closed Self.Link.taken Self.Link.written link) }
         ensures links { CountsOk (links self.old) (links self.new) result }
         ensures full { links self.old ≡ 2 ^ 64 - 1 → IsErrOf result HostFault.Failed }

@@ -74,7 +74,7 @@ impl Host for MemoryHost {
     ghost faults = { λ h. h.faults };
 
     fn console(&mut self) -> Result<MemoryLink, HostFault>
-        ensures handed { HandsOut left_of (consoles_of self.old) (consoles_of self.new) result }
+        ensures handed { HandsOut left_of taken_of written_of (consoles_of self.old) (consoles_of self.new) result }
         ensures fresh { IfOk result (λ link. IsFresh faults_of is_closed taken_of written_of link) }
         ensures links { CountsOk self.old.links self.new.links result }
         ensures full { self.old.links ≡ 2 ^ 64 - 1 → IsErrOf result HostFault.Failed }

@@ -3,7 +3,7 @@ ghost use Rattle.std.specs.Prelude.{◌≡◌, ◌≤◌, ◌<◌, ◌⊎◌, []
 ghost use Rattle.std.specs.Io.KnownBytes.{Keeps, Appends, Consumes, IsAtEnd};
 ghost use Rattle.link_core.specs.Causes.{HasCause, Rose};
 ghost use Rattle.link_core.specs.Link.{Spends};
-ghost use Rattle.doip_segment.specs.Decoding.{outcome_of, end_of};
+ghost use Rattle.doip_segment.specs.Decoding.{outcome_of};
 ghost use Rattle.session_core.specs.Reading.{MatchesEnd};
 
 use doip_segment::{Decoder, End, Reason, Step};
@@ -48,7 +48,7 @@ impl Model for Reader {
 }
 
 impl Reader {
-    ghost use Rattle.session_core.specs.Reading.{FeedsHeld, Flows, Answers, IsReadFault};
+    ghost use Rattle.session_core.specs.Reading.{FeedsHeld, FramesHeld, Flows, step_of, Answers, IsReadFault};
 
     /// A reader that holds nothing. It takes all memory that it will ever need.
     pub fn new(alloc: Global) -> Result<Reader, AllocError>
@@ -72,7 +72,7 @@ impl Reader {
 
     // Feeds the decoder a front of what the reader holds: all, where it then stands at neither a message nor a fault.
     fn feed_held(&mut self, decoder: &mut Decoder) -> Step
-        ensures fed { FeedsHeld self.old self.new decoder.old decoder.new }
+        ensures fed { FramesHeld result self.old self.new decoder.old decoder.new }
         ensures outcome { result ≡ outcome_of decoder.new.reading.phase decoder.new.taken }
         ensures more { result ≡ Step.More → self.new ≡ [] }
         ensures bound { length self.new ≤ 65536 }
@@ -109,7 +109,7 @@ impl Reader {
     /// # Errors
     /// `ReadFault` comes only where the link's count of faults rose in this call.
     pub fn next<L: Link>(&mut self, link: &mut L, decoder: &mut Decoder) -> Next
-        ensures flow { Flows self.old self.new (L.taken link.old) (L.taken link.new) (L.left link.old) (L.left link.new) decoder.old decoder.new }
+        ensures flow { Flows (step_of result) self.old self.new (L.taken link.old) (L.taken link.new) (L.left link.old) (L.left link.new) decoder.old decoder.new }
         ensures answer { Answers result self.new (L.left link.new) decoder.new }
         ensures later { L.faults link.old ≤ L.faults link.new }
         ensures cause { IsReadFault result → Rose (L.faults link.old) (L.faults link.new) }
@@ -142,7 +142,7 @@ impl Reader {
 
 // What the link's end is.
 fn at_end(decoder: &Decoder) -> Next
-    ensures { MatchesEnd result (end_of decoder.now.reading.phase decoder.now.reading.segments decoder.now.taken) }
+    ensures { MatchesEnd result decoder.now }
 {
     match decoder.finish() {
         End::Between => Next::Ended,

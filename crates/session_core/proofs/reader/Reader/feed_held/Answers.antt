@@ -1,8 +1,7 @@
-use Rattle.std.proofs.Common.{ℕ}
-use Rattle.session_core.proofs.Flow.{held_fed}
+use Rattle.session_core.proofs.Flow.{held_framed}
 use Rattle.session_core.proofs.reader.Reader.feed_held.Goals as goal
 
 pub returns-clause-fed : goal.returns-clause-fed
 returns-clause-fed c =
-    held_fed c.self.inside.start c.self.inside.end c.feed-fed.result.0 c.self.inside.buffer.items c.deref.result.now c.args.self.now c.args.decoder.now c.feed-fed.new.self
-    c.deref.ensures.value c.self.view_is c.self.invariant.1 c.feed-fed.ensures.within c.feed-fed.ensures.limits c.feed-fed.ensures.reading c.feed-fed.ensures.taken
+    held_framed c.feed-fed.result.1 c.self.inside.start c.self.inside.end c.feed-fed.result.0 c.self.inside.buffer.items c.deref.result.now c.args.self.now c.args.decoder.now c.feed-fed.new.self
+    c.deref.ensures.value c.self.view_is c.self.invariant.1 c.feed-fed.ensures.within c.feed-fed.ensures.limits c.feed-fed.ensures.took c.feed-fed.ensures.taken c.feed-fed.ensures.framing

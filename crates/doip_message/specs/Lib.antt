@@ -1,0 +1,5 @@
+pub mod Asked
+pub mod Reading
+pub mod Fields
+pub mod Reply
+pub mod Entries

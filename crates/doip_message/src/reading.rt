@@ -1,0 +1,237 @@
+//! Reading a request.
+ghost use Rattle.std.specs.Prelude.{◌≡◌, ◌≢◌, ◌<◌, List, ℕ, codes, option_map, drop, length, IfOk};
+ghost use Rattle.doip_json.specs.Value.{table, entries_from};
+ghost use Rattle.doip_json.specs.Meaning.{value_of};
+ghost use Rattle.doip_json.specs.Look.{entry_of};
+ghost use Rattle.doip_message.specs.Asked.{content_of};
+ghost use Rattle.doip_message.specs.Reading.{unless_null, property, optional_text, required_text, attributes_in, authentication_in, input_in, first_table, further, request, Reads, IsRequest};
+ghost use Rattle.doip_message.specs.Fields.{fields_in, view_of, asking_view, properties_given};
+
+use crate::request::{Body, FieldName, Request, RequestFault, Why};
+use doip_json::{Json, JsonFault, JsonMap, Str, read};
+use doip_segment::{Kind, Message};
+use std::alloc::{AllocError, Global};
+
+/// How deep the first segment may nest.
+const DEPTH: u8 = 64;
+
+// The properties of the first segment that are read, each absent where it is `null`.
+#[derive(Drop)]
+struct Fields {
+    request_id: Option<Json>,
+    target_id: Option<Json>,
+    operation_id: Option<Json>,
+    attributes: Option<Json>,
+    authentication: Option<Json>,
+    input: Option<Json>,
+}
+
+// The properties behind the client's mark, as they are asked.
+#[derive(Drop)]
+struct Asking {
+    target_id: Str,
+    operation_id: Str,
+    attributes: JsonMap,
+    authentication: Option<Json>,
+    input: Body,
+}
+
+/// The request that a message spells, or its first fault in this order: no segment; a first segment of bytes; one that
+/// is not JSON, nested deeper than 64 or with a number that isn't whole; one that is no table; a fault of `requestId`,
+/// `targetId`, `operationId` or `attributes`, where the value has another kind or a required one is absent; an `input`
+/// beside further segments. `null` for an optional property counts as absent, as does an empty table of
+/// `authentication`; other properties are not read. A fault of a property and two inputs carry the client's mark where
+/// that is a text. `Memory` comes for want of memory alone.
+///
+/// It takes time in the length of the message: the values are those that the reader of JSON made, and the contents of
+/// further segments are copied once.
+pub fn request_of(alloc: Global, message: &Message) -> Result<Request, RequestFault>
+    ensures { IsRequest result (request message.now.segments) }
+{
+    let table = match table_of(alloc, message) {
+        Ok(table) => table,
+        Err(why) => {
+            return Err(RequestFault {
+                request_id: None,
+                why,
+            });
+        }
+    };
+    let mut fields = fields_of(table);
+    let request_id = match text_of(fields.request_id.take(), FieldName::RequestId) {
+        Ok(request_id) => request_id,
+        Err(why) => {
+            return Err(RequestFault {
+                request_id: None,
+                why,
+            });
+        }
+    };
+    match asking_of(alloc, fields, message) {
+        Ok(asking) => Ok(Request {
+            request_id,
+            target_id: asking.target_id,
+            operation_id: asking.operation_id,
+            attributes: asking.attributes,
+            authentication: asking.authentication,
+            input: asking.input,
+        }),
+        Err(why) => Err(RequestFault { request_id, why }),
+    }
+}
+
+// The table that the first segment is.
+fn table_of(alloc: Global, message: &Message) -> Result<JsonMap, Why>
+    ensures { Reads (λ m. table (entries_from m)) result (first_table message.now.segments) }
+{
+    if message.count() == 0 {
+        return Err(Why::NoSegment);
+    }
+    if matches!(message.kind(0), Kind::Bytes) {
+        return Err(Why::FirstIsBytes);
+    }
+    match read(alloc, message.bytes(0), DEPTH) {
+        Ok(Json::Table(table)) => Ok(table),
+        Ok(_) => Err(Why::NotTable),
+        Err(JsonFault::Memory) => Err(Why::Memory),
+        Err(fault) => Err(Why::Json(fault)),
+    }
+}
+
+// The value of a property, which is taken out of the table. `null` counts as absent.
+fn present(table: &mut JsonMap, key: &str) -> Option<Json>
+    ensures value { option_map value_of result ≡ unless_null (entry_of key.now (entries_from table.old)) }
+    ensures others { (other : List ℕ) → other ≢ key.now →
+        entry_of other (entries_from table.new) ≡ entry_of other (entries_from table.old) }
+{
+    match table.take(key) {
+        None | Some(Json::Null) => None,
+        Some(value) => Some(value),
+    }
+}
+
+// The properties that are read.
+fn fields_of(mut entries: JsonMap) -> Fields
+    ensures { view_of result ≡ fields_in (table (entries_from entries)) }
+{
+    let request_id = present(&mut entries, "requestId");
+    let target_id = present(&mut entries, "targetId");
+    let operation_id = present(&mut entries, "operationId");
+    let attributes = present(&mut entries, "attributes");
+    let authentication = present(&mut entries, "authentication");
+    let input = present(&mut entries, "input");
+    Fields {
+        request_id,
+        target_id,
+        operation_id,
+        attributes,
+        authentication,
+        input,
+    }
+}
+
+// What the properties behind the client's mark ask, the first fault first.
+#[tactic(auto, unfolding(crate::specs::Fields::properties_given))]
+fn asking_of(alloc: Global, fields: Fields, message: &Message) -> Result<Asking, Why>
+    ensures { Reads asking_view result (properties_given (view_of fields) (further message.now.segments)) }
+{
+    let target_id = needed_text_of(fields.target_id, FieldName::TargetId)?;
+    let operation_id = needed_text_of(fields.operation_id, FieldName::OperationId)?;
+    let attributes = attributes_of(alloc, fields.attributes)?;
+    let authentication = authentication_of(fields.authentication);
+    let input = input_of(alloc, fields.input, message)?;
+    Ok(Asking {
+        target_id,
+        operation_id,
+        attributes,
+        authentication,
+        input,
+    })
+}
+
+// The text of an optional property.
+fn text_of(property: Option<Json>, name: FieldName) -> Result<Option<Str>, Why>
+    ensures { Reads (λ t. t) result (optional_text name (option_map value_of property)) }
+{
+    match property {
+        None => Ok(None),
+        Some(Json::Text(text)) => Ok(Some(text)),
+        Some(_) => Err(Why::Field { name }),
+    }
+}
+
+// The text of a property that has to be there.
+fn needed_text_of(property: Option<Json>, name: FieldName) -> Result<Str, Why>
+    ensures { Reads (λ t. t) result (required_text name (option_map value_of property)) }
+{
+    match property {
+        Some(Json::Text(text)) => Ok(text),
+        _ => Err(Why::Field { name }),
+    }
+}
+
+// The table of arguments, empty where there is none.
+fn attributes_of(alloc: Global, property: Option<Json>) -> Result<JsonMap, Why>
+    ensures { Reads entries_from result (attributes_in (option_map value_of property)) }
+{
+    match property {
+        None => Ok(JsonMap::empty(alloc)),
+        Some(Json::Table(attributes)) => Ok(attributes),
+        Some(_) => Err(Why::Field {
+            name: FieldName::Attributes,
+        }),
+    }
+}
+
+// Who asks. An empty table counts as absent.
+fn authentication_of(property: Option<Json>) -> Option<Json>
+    ensures { option_map value_of result ≡ authentication_in (option_map value_of property) }
+{
+    match property {
+        Some(Json::Table(entries)) => {
+            if entries.len() == 0 {
+                None
+            } else {
+                Some(Json::Table(entries))
+            }
+        }
+        other => other,
+    }
+}
+
+// The input: the property of that name, or the segments after the first.
+fn input_of(alloc: Global, property: Option<Json>, message: &Message) -> Result<Body, Why>
+    ensures { Reads content_of result (input_in (option_map value_of property) (further message.now.segments)) }
+{
+    let has_more = message.count() > 1;
+    match property {
+        Some(value) => {
+            if has_more {
+                Err(Why::TwoInputs)
+            } else {
+                Ok(Body::Value(value))
+            }
+        }
+        None => {
+            if has_more {
+                match parts_of(alloc, message) {
+                    Ok(parts) => Ok(Body::Parts(parts)),
+                    Err(AllocError) => Err(Why::Memory),
+                }
+            } else {
+                Ok(Body::Nothing)
+            }
+        }
+    }
+}
+
+// A copy of the segments after the first.
+fn parts_of(alloc: Global, message: &Message) -> Result<Message, AllocError>
+    ensures { IfOk result (λ m. m.segments ≡ drop 1 message.now.segments) }
+{
+    let mut parts = Message::empty(alloc);
+    for i in 1..message.count() {
+        parts.push(message.kind(i), message.bytes(i))?;
+    }
+    Ok(parts)
+}

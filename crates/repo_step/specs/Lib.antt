@@ -1,0 +1,4 @@
+pub mod Setup
+pub mod Refusals
+pub mod Step
+pub mod History
