@@ -19,6 +19,8 @@ mod look;
 mod pointer;
 mod reading;
 mod same;
+#[cfg(test)]
+mod tests;
 mod value;
 mod writing;
 
