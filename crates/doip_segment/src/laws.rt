@@ -1,12 +1,12 @@
 //! Laws of spellings and framings: each is the contract of a function that does nothing.
 
-ghost use Rattle.std.specs.Prelude.{◌≡◌, ◌++◌, ℕ, List, []};
+ghost use Rattle.std.specs.Prelude.{◌≡◌, ◌∷◌, ◌++◌, ℕ, List, []};
 ghost use Rattle.doip_segment.specs.declared.outcome.Limits.{Limits};
 ghost use Rattle.doip_segment.specs.declared.outcome.Reason.{Reason};
 ghost use Rattle.doip_segment.specs.Segments.{Segment};
 ghost use Rattle.doip_segment.specs.Grammar.{IsSpelling};
 ghost use Rattle.doip_segment.specs.Canonical.{AreEncodable, canonical};
-ghost use Rattle.doip_segment.specs.Framing.{Framed, Broken};
+ghost use Rattle.doip_segment.specs.Framing.{IsWithin, Framed, Broken};
 ghost use Rattle.doip_segment.specs.declared.outcome.Step.TheVariants.{More};
 ghost use Rattle.doip_segment.specs.Session.{Call, IsSession, bytes_of, messages_of, rest_of, Ends};
 
@@ -35,6 +35,15 @@ pub fn each_stream_breaks_once()
 /// What the encoder writes is a spelling of the message.
 pub fn canonical_is_a_spelling()
     ensures { (message : List Segment) → AreEncodable message → IsSpelling (canonical message) message }
+{}
+
+/// What the encoder wrote is read again, with whatever comes behind it: a stream that begins with the canonical spelling of
+/// a message within the limits has that message first, and then those of the bytes behind it.
+pub fn what_is_written_is_read()
+    ensures { (limits : Limits) (message : List Segment) (behind : List ℕ) (messages : List (List Segment)) (rest : List ℕ)
+        → AreEncodable message → IsWithin limits (canonical message) message
+        → Framed limits (canonical message ++ behind) messages rest
+        → (later : List (List Segment)) × (messages ≡ message ∷ later) × Framed limits behind later rest }
 {}
 
 /// However a session is cut into pieces, its messages and its rest are those of the bytes taken, joined. It ends at a

@@ -28,7 +28,7 @@ pub use encoder::{encode, is_plain};
 pub use kind::Kind;
 pub use laws::{
     canonical_is_a_spelling, each_stream_breaks_once, each_stream_has_one_framing,
-    no_spelling_begins_another, pieces_do_not_matter,
+    no_spelling_begins_another, pieces_do_not_matter, what_is_written_is_read,
 };
 pub use message::Message;
 pub use outcome::{End, Limits, Reason, Step};
