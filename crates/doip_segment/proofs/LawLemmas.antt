@@ -238,3 +238,10 @@ one_broken limits bytes p q x y a b =
     let same = same_cut a.front a.byte a.behind b.front b.byte b.behind (sym a.is ∙ b.is) size in
     let fault = subst (λ (z : ℕ). IsFault limits b.front z x) same.1 (subst (λ (z : List ℕ). IsFault limits z a.byte x) same.0 a.fault) in
     (a.at ∙ ap (λ n. n + 1) size ∙ sym b.at, one_reason limits b.front b.byte x y fault b.fault)
+
+-- A stream that begins with a spelling has its message first.
+pub framed_first : (limits : Limits) (front behind : List ℕ) (message : List Segment) (messages : List (List Segment)) (rest : List ℕ) → Spelt limits front message → Framed limits (front ++ behind) messages rest → (later : List (List Segment)) × (messages ≡ message ∷ later) × Framed limits behind later rest
+framed_first limits front behind message [] rest spelt framed = absurd (framed.1 front behind message (sym framed.0) spelt)
+framed_first limits front behind message (m ∷ ms) rest spelt framed =
+    let one = one_front front behind framed.0 framed.1 message m framed.3 spelt.spelling framed.2.spelling in
+    (ms, ap (λ x. x ∷ ms) (sym one.1), subst (λ (x : List ℕ). Framed limits x ms rest) (sym one.2) framed.4)

@@ -12,3 +12,4 @@ pub mod LawLemmas
 pub mod FeedLemmas
 pub mod CanonicalLemmas
 pub mod AnswerLemmas
+pub mod SessionLemmas

@@ -5,3 +5,4 @@ pub mod Framing
 pub mod Place
 pub mod Machine
 pub mod Decoding
+pub mod Session

@@ -2,6 +2,7 @@ ghost use Rattle.std.specs.Prelude.{◌≤◌};
 
 use super::*;
 use std::alloc::{AllocError, Global};
+use std::process::Abort;
 use std::test::Fail;
 
 const AMPLE: Limits = Limits {
@@ -14,7 +15,18 @@ const SMALL: Limits = Limits {
     total: 100,
 };
 
-const fn fault(place: u64, reason: Reason) -> Step {
+const SHORT: Limits = Limits {
+    json: 10,
+    total: 20,
+};
+
+/// Byte json + 2 of a JSON segment that begins a message is its byte total + 1.
+const EQUAL: Limits = Limits { json: 8, total: 9 };
+
+/// Some bytes, how many of them are taken, and the answer.
+type Row = (&'static [u8], usize, Step);
+
+const fn at(place: u64, reason: Reason) -> Step {
     Step::Fault { place, reason }
 }
 
@@ -27,8 +39,128 @@ fn fed(alloc: Global, limits: Limits, bytes: &[u8]) -> Result<(usize, Step), All
     Ok(decoder.feed(bytes))
 }
 
+fn holds(rt: &impl Abort, alloc: Global, limits: Limits, rows: &[Row]) -> Result<(), AllocError>
+    requires json { 1 ≤ limits.json }
+    requires order { limits.json ≤ limits.total }
+    requires total { limits.total ≤ 67108864 }
+{
+    for row in rows {
+        assert_eq!(rt; fed(alloc, limits, row.0)?, (row.1, row.2));
+    }
+    Ok(())
+}
+
 #[test]
-fn a_byte_segment_is_its_data(rt: HostRuntime) -> Result<(), Fail> {
+fn spellings_end_at_their_last_byte(rt: HostRuntime) -> Result<(), Fail> {
+    let rows: [Row; 17] = [
+        (b"#\n", 2, Step::Message),
+        (b"\t \r\n#\n", 6, Step::Message),
+        (b"# \t\r\n", 5, Step::Message),
+        (b"{}\n#\n#\n", 7, Step::Message),
+        (b"{\n}\n#\n#\n", 8, Step::Message),
+        (b"1\n\n#\n#\n", 7, Step::Message),
+        (b"a\n@\n#\n#\n", 8, Step::Message),
+        (b"a #\n#\n#\n", 8, Step::Message),
+        (b" 1\r\n#\r\n#\r\n", 10, Step::Message),
+        (b"@\n#\n#\n", 6, Step::Message),
+        (b"@ \t\r\n# \n#\n", 10, Step::Message),
+        (b"@\n0\n\n#\n#\n", 9, Step::Message),
+        (b"@\n0000000003 \t\nabc\n#\n#\n", 23, Step::Message),
+        (b"@\n1\n#\n1\n\n\n#\n#\n", 14, Step::Message),
+        (b"1\n#\n2\n#\n@\n1\nx\n#\n#\n", 18, Step::Message),
+        (b"#\n#\n", 2, Step::Message),
+        (b"1\n#\n#\nrest", 6, Step::Message),
+    ];
+    Ok(holds(&rt, rt.alloc(), AMPLE, &rows)?)
+}
+
+#[test]
+fn parts_of_spellings_need_more(rt: HostRuntime) -> Result<(), Fail> {
+    let rows: [Row; 13] = [
+        (b"", 0, Step::More),
+        (b" ", 1, Step::More),
+        (b"#", 1, Step::More),
+        (b"{\"a\":1}", 7, Step::More),
+        (b"{}\n", 3, Step::More),
+        (b"{}\n#", 4, Step::More),
+        (b"@", 1, Step::More),
+        (b"@\n12", 4, Step::More),
+        (b"@\n12 ", 5, Step::More),
+        (b"@\n12\nabc", 8, Step::More),
+        (b"@\n3\nabc", 7, Step::More),
+        (b"@\n3\nabc\n", 8, Step::More),
+        (b"@\n#", 3, Step::More),
+    ];
+    Ok(holds(&rt, rt.alloc(), AMPLE, &rows)?)
+}
+
+#[test]
+fn grammar_faults_have_their_places(rt: HostRuntime) -> Result<(), Fail> {
+    let rows: [Row; 21] = [
+        (b"#x", 2, at(2, Reason::Marker)),
+        (b"##", 2, at(2, Reason::Marker)),
+        (b"# \t\rx", 5, at(5, Reason::Marker)),
+        (b"1\n#x", 4, at(4, Reason::Marker)),
+        (b"1\n# @", 5, at(5, Reason::Marker)),
+        (b"@x", 2, at(2, Reason::Marker)),
+        (b"@ 1", 3, at(3, Reason::Marker)),
+        (b"@\n#1", 4, at(4, Reason::Marker)),
+        (b"@\n1\na\n#\t#", 9, at(9, Reason::Marker)),
+        (b"@\nx", 3, at(3, Reason::Length)),
+        (b"@\n ", 3, at(3, Reason::Length)),
+        (b"@\n\n", 3, at(3, Reason::Length)),
+        (b"@\n1\na\nb", 7, at(7, Reason::Length)),
+        (b"@\n12x", 5, at(5, Reason::Length)),
+        (b"@\n12 3", 6, at(6, Reason::Length)),
+        (b"@\n12#", 5, at(5, Reason::Length)),
+        (b"@\n12345678901", 13, at(13, Reason::Length)),
+        (b"@\n0000000000 x", 14, at(14, Reason::Length)),
+        (b"@\n0\nx", 5, at(5, Reason::ChunkEnd)),
+        (b"@\n2\nab ", 7, at(7, Reason::ChunkEnd)),
+        (b"@\n2\nabc", 7, at(7, Reason::ChunkEnd)),
+    ];
+    Ok(holds(&rt, rt.alloc(), AMPLE, &rows)?)
+}
+
+#[test]
+fn limits_hold_at_their_edges(rt: HostRuntime) -> Result<(), Fail> {
+    let json: [Row; 6] = [
+        (b"1234567890\n#\n#\n", 15, Step::Message),
+        (b"123456789\n\n#\n#\n", 15, Step::Message),
+        (b"12345678901\n#\n#\n", 12, at(12, Reason::JsonTooLong)),
+        (b"123456789012", 12, at(12, Reason::JsonTooLong)),
+        (b"1234567890\nx", 12, at(12, Reason::JsonTooLong)),
+        (b"1\n#\n12345678901x", 16, at(16, Reason::JsonTooLong)),
+    ];
+    holds(&rt, rt.alloc(), SMALL, &json)?;
+    let total: [Row; 5] = [
+        (b"                  #\n", 20, Step::Message),
+        (b"                   #\n", 21, at(21, Reason::TooLong)),
+        (b"                     ", 21, at(21, Reason::TooLong)),
+        (b"@\n30\nabcdefghijklmnop", 21, at(21, Reason::TooLong)),
+        (b"#                   x", 21, at(21, Reason::TooLong)),
+    ];
+    holds(&rt, rt.alloc(), SHORT, &total)?;
+    Ok(holds(
+        &rt,
+        rt.alloc(),
+        EQUAL,
+        &[(b"1234567890", 10, at(10, Reason::TooLong))],
+    )?)
+}
+
+#[test]
+fn segment_2049_is_one_too_many(rt: HostRuntime) -> Result<(), Fail> {
+    let mut decoder = Decoder::new(rt.alloc(), AMPLE)?;
+    for _ in 0..2048 {
+        assert_eq!(rt; decoder.feed(b"@\n#\n"), (4, Step::More));
+    }
+    assert_eq!(rt; decoder.feed(b"\n1"), (2, at(8194, Reason::TooMany)));
+    Ok(())
+}
+
+#[test]
+fn a_byte_segment_is_its_data_joined(rt: HostRuntime) -> Result<(), Fail> {
     let mut decoder = Decoder::new(rt.alloc(), AMPLE)?;
     assert_eq!(rt;
         decoder.feed(b"@\n007\nabcdefg\n0\n\n#\n#\n"),
@@ -43,46 +175,55 @@ fn a_byte_segment_is_its_data(rt: HostRuntime) -> Result<(), Fail> {
 }
 
 #[test]
-fn a_fault_has_its_place(rt: HostRuntime) -> Result<(), Fail> {
-    assert_eq!(rt;
-        fed(rt.alloc(), AMPLE, b"@\n12x")?,
-        (5, fault(5, Reason::Length))
-    );
-    assert_eq!(rt;
-        fed(rt.alloc(), AMPLE, b"#x")?,
-        (2, fault(2, Reason::Marker))
-    );
-    Ok(())
-}
-
-#[test]
-fn a_json_segment_has_its_limit(rt: HostRuntime) -> Result<(), Fail> {
-    assert_eq!(rt;
-        fed(rt.alloc(), SMALL, b"1234567890\n#\n#\n")?,
-        (15, Step::Message)
-    );
-    assert_eq!(rt;
-        fed(rt.alloc(), SMALL, b"12345678901\n#\n#\n")?,
-        (12, fault(12, Reason::JsonTooLong))
-    );
-    Ok(())
-}
-
-#[test]
-fn segment_2049_is_one_too_many(rt: HostRuntime) -> Result<(), Fail> {
+fn a_session_goes_on_behind_its_messages(rt: HostRuntime) -> Result<(), Fail> {
     let mut decoder = Decoder::new(rt.alloc(), AMPLE)?;
-    for _ in 0..2048 {
-        assert_eq!(rt; decoder.feed(b"@\n#\n"), (4, Step::More));
-    }
-    assert_eq!(rt; decoder.feed(b"\n1"), (2, fault(8194, Reason::TooMany)));
+    assert_eq!(rt; decoder.finish(), End::Between);
+    assert_eq!(rt; decoder.feed(b"1\n#\n#\n#x"), (6, Step::Message));
+    assert_eq!(rt; decoder.feed(b"#x"), (0, Step::Message));
+    assert_eq!(rt; decoder.finish(), End::Between);
+    decoder.clear();
+    assert_eq!(rt; decoder.feed(b"#x"), (2, at(8, Reason::Marker)));
+    assert_eq!(rt; decoder.feed(b"\n"), (0, at(8, Reason::Marker)));
+    assert_eq!(rt; decoder.finish(), End::Inside { place: 8 });
+    decoder.restart();
+    assert_eq!(rt; decoder.taken(), 0);
+    assert_eq!(rt; decoder.feed(b" \n"), (2, Step::More));
+    assert_eq!(rt; decoder.finish(), End::Between);
+    assert_eq!(rt; decoder.feed(b"1"), (1, Step::More));
+    assert_eq!(rt; decoder.finish(), End::Inside { place: 3 });
     Ok(())
 }
 
+/// The spelling that is made of the segments, and what a decoder gives of it, one byte at a time.
 #[test]
 fn what_is_encoded_is_read_again(rt: HostRuntime) -> Result<(), Fail> {
     let mut message = Message::empty(rt.alloc());
     message.push(Kind::Bytes, b"a\n#\nb")?;
     message.push(Kind::Bytes, b"")?;
-    assert_eq!(rt; message.count(), 2);
+    let spelling = encode(rt.alloc(), &message)?;
+    assert_eq!(rt;
+        spelling.as_slice(),
+        b"@\n5\na\n#\nb\n#\n@\n#\n#\n".as_slice()
+    );
+    let mut decoder = Decoder::new(rt.alloc(), SMALL)?;
+    for byte in &spelling {
+        decoder.feed(&[*byte]);
+    }
+    assert!(rt; decoder.stands());
+    let read = decoder.message();
+    assert_eq!(rt; read.count(), 2);
+    assert_eq!(rt; read.bytes(0), b"a\n#\nb".as_slice());
+    assert_eq!(rt; read.bytes(1), b"".as_slice());
     Ok(())
+}
+
+#[test]
+fn plain_text_is_one_line(rt: HostRuntime) {
+    assert!(rt; is_plain(b"{\"a\": [1]}"));
+    assert!(rt; is_plain(b"a@#"));
+    assert!(rt; !is_plain(b""));
+    assert!(rt; !is_plain(b" {}"));
+    assert!(rt; !is_plain(b"#"));
+    assert!(rt; !is_plain(b"@"));
+    assert!(rt; !is_plain(b"{}\n"));
 }
