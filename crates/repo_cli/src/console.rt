@@ -1,0 +1,78 @@
+//! Standard input and output as one link.
+ghost use Rattle.std.specs.Prelude.{◌≤◌, ◌^◌, None};
+
+use link_core::{Failed, Link};
+use std::io::{Read, Stdin, Stdout, Write};
+
+/// The reads that a console can give bytes by.
+const READS: u64 = 1 << 63;
+
+/// Standard input and output as one link. It tells nothing of what it holds, and counts its faults.
+#[derive(Drop)]
+pub struct ConsoleLink {
+    stdin: Stdin,
+    stdout: Stdout,
+    closed: bool,
+    reads: u64,
+    faults: u64,
+    ghost few: { reads ≤ 2 ^ 63 },
+}
+
+impl ConsoleLink {
+    /// The console, before the first read and write.
+    pub fn new(stdin: Stdin, stdout: Stdout) -> ConsoleLink {
+        ConsoleLink {
+            stdin,
+            stdout,
+            closed: false,
+            reads: READS,
+            faults: 0,
+        }
+    }
+
+    // A call that failed.
+    fn fail(&mut self) -> Result<usize, Failed> {
+        self.faults = self.faults.saturating_add(1);
+        Err(Failed)
+    }
+}
+
+impl Link for ConsoleLink {
+    ghost taken = { λ _. None };
+
+    ghost left = { λ _. None };
+
+    ghost written = { λ _. None };
+
+    ghost closed = { λ c. c.closed };
+
+    ghost faults = { λ c. c.faults };
+
+    ghost reads = { λ c. c.reads };
+
+    fn read(&mut self, into: &mut [u8]) -> Result<usize, Failed> {
+        if self.reads == 0 {
+            return self.fail();
+        }
+        match self.stdin.read(into) {
+            Ok(0) => Ok(0),
+            Ok(count) => {
+                self.reads -= 1;
+                Ok(count)
+            }
+            Err(_) => self.fail(),
+        }
+    }
+
+    fn write(&mut self, piece: &[u8]) -> Result<usize, Failed> {
+        match self.stdout.write(piece) {
+            Ok(0) if !piece.is_empty() => self.fail(),
+            Ok(count) => Ok(count),
+            Err(_) => self.fail(),
+        }
+    }
+
+    fn close(&mut self) {
+        self.closed = true;
+    }
+}

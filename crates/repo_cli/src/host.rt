@@ -1,0 +1,51 @@
+//! The process as a host.
+ghost use Rattle.std.specs.Prelude.{None};
+
+use crate::console::ConsoleLink;
+use link_core::{Host, HostFault};
+use std::io::{Stdin, Stdout};
+
+/// The process itself. It tells nothing of what it holds, and counts its calls and its faults.
+#[derive(Drop)]
+pub struct RealHost {
+    stdin: Stdin,
+    stdout: Stdout,
+    console_calls: u64,
+    links: u64,
+    faults: u64,
+}
+
+impl RealHost {
+    /// The process, before the first call.
+    pub fn new(stdin: Stdin, stdout: Stdout) -> RealHost {
+        RealHost {
+            stdin,
+            stdout,
+            console_calls: 0,
+            links: 0,
+            faults: 0,
+        }
+    }
+}
+
+impl Host for RealHost {
+    type Link = ConsoleLink;
+
+    ghost consoles = { λ _. None };
+
+    ghost console_calls = { λ h. h.console_calls };
+
+    ghost links = { λ h. h.links };
+
+    ghost faults = { λ h. h.faults };
+
+    fn console(&mut self) -> Result<ConsoleLink, HostFault> {
+        self.console_calls = self.console_calls.saturating_add(1);
+        if self.links == u64::MAX {
+            self.faults = self.faults.saturating_add(1);
+            return Err(HostFault::Failed);
+        }
+        self.links += 1;
+        Ok(ConsoleLink::new(self.stdin, self.stdout))
+    }
+}

@@ -1,0 +1,4 @@
+pub mod Replies
+pub mod Framings
+pub mod ServingLemmas
+pub mod RunLemmas
