@@ -1,5 +1,5 @@
 -- What the decoder answers to bytes that are known to be a message, or a part of one, and at a session's end.
-use Rattle.std.proofs.Common.{◌≡◌, ℕ, zero, suc, ◌+◌, ◌-◌, ◌≤◌, ◌<◌, ◌⊎◌, inl, inr, List, [], ◌∷◌, ◌++◌, length, map, take, drop, Bool, true, false, refl, sym, ap, ◌∙◌, subst, arith, append_assoc, length-append}
+use Rattle.std.proofs.Common.{◌≡◌, ℕ, ◌+◌, ◌≤◌, ◌⊎◌, inl, inr, List, [], ◌∷◌, ◌++◌, length, map, take, drop, true, false, refl, sym, ap, ◌∙◌, subst, arith, append_assoc, length-append}
 use Rattle.std.specs.List.{flat_map, AllByRecursion}
 use Rattle.std.proofs.lemmas.List.{append-nil, take-append-drop, length-take-le, length-drop}
 use Rattle.doip_segment.specs.declared.outcome.Limits.{Limits}
@@ -14,11 +14,11 @@ use Rattle.doip_segment.specs.Framing.{Spelt}
 use Rattle.doip_segment.specs.Machine.{run, is_done, Reading, start}
 use Rattle.doip_segment.specs.declared.outcome.End.TheVariants as ends
 use Rattle.doip_segment.specs.Decoding.{Decoding, Took, EndsBetween, outcome_of, end_of}
-use Rattle.doip_segment.proofs.WalkLemmas.{Core, core, walk, outset, white_walk}
-use Rattle.doip_segment.proofs.TellLemmas.{Told, told_at}
-use Rattle.doip_segment.proofs.CleanLemmas.{go, core_of, core_go, Clean, Breaks, reach, clean_live}
-use Rattle.doip_segment.proofs.SpeltLemmas.{ReadsTo, spelt_clean, clean_run, spelt_run, run_behind}
-use Rattle.doip_segment.proofs.LawLemmas.{Longer, two_fronts}
+use Rattle.doip_segment.proofs.WalkLemmas.{Core, core, white_walk}
+use Rattle.doip_segment.proofs.TellLemmas.{told_at}
+use Rattle.doip_segment.proofs.CleanLemmas.{go, core_go, reach, clean_live}
+use Rattle.doip_segment.proofs.SpeltLemmas.{spelt_clean, clean_run, spelt_run, run_behind}
+use Rattle.doip_segment.proofs.LawLemmas.{two_fronts}
 use Rattle.doip_segment.proofs.CleanLemmas.{clean_front}
 
 -- the bytes that were taken, and the rest of the piece

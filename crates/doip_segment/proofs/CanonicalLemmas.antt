@@ -1,5 +1,5 @@
 -- The canonical spelling is a spelling.
-use Rattle.std.proofs.Common.{◌≡◌, ◌≢◌, ℕ, zero, suc, ◌+◌, ◌-◌, ◌*◌, ◌/◌, ◌%◌, ◌^◌, ◌≤◌, ◌<◌, ◌⊎◌, inl, inr, List, [], ◌∷◌, ◌++◌, length, map, Bool, true, false, refl, sym, ap, ◌∙◌, subst, arith, append_assoc, length-append, eqb}
+use Rattle.std.proofs.Common.{◌≡◌, ◌≢◌, ℕ, ◌+◌, ◌-◌, ◌*◌, ◌%◌, ◌^◌, ◌<◌, inr, List, [], ◌∷◌, ◌++◌, length, map, Bool, true, false, refl, sym, ap, ◌∙◌, subst, arith, append_assoc, eqb}
 use Rattle.std.specs.List.{flat_map, AllByRecursion}
 use Rattle.std.specs.Fmt.{decimal}
 use Rattle.std.proofs.lemmas.List.{append-nil}
@@ -7,7 +7,7 @@ use Rattle.std.proofs.lemmas.Fmt.{decimal_by_steps, length-decimal-le, decimal_n
 use Rattle.doip_segment.specs.declared.kind.Kind.{Kind}
 use Rattle.doip_segment.specs.declared.kind.Kind.TheVariants as kinds
 use Rattle.doip_segment.specs.Segments.{Segment, segment}
-use Rattle.doip_segment.specs.Grammar.{IsBlank, IsWhite, IsDigit, value_of, value_after, ending, BeginsText, NoHash, IsText, IsLength, Chunk, IsChunk, chunk_bytes, content_of, Part, TextPart, BytesPart, IsPart, part_bytes, segment_of_part, IsSpelling}
+use Rattle.doip_segment.specs.Grammar.{IsDigit, value_of, NoHash, IsText, IsChunk, Part, TextPart, BytesPart, IsPart, part_bytes, segment_of_part, IsSpelling}
 use Rattle.doip_segment.specs.Canonical.{IsPlain, CanBeWritten, IsEncodable, AreEncodable, chunks_text, content_text, segment_text, canonical}
 use Rattle.doip_segment.proofs.ClassLemmas.{eq_tests}
 use Rattle.doip_segment.proofs.TellLemmas.{all_push, value_push}

@@ -1,7 +1,6 @@
 -- Bytes that break no limit, and what a reading that took each of its bytes says of them.
-use Rattle.std.proofs.Common.{◌≡◌, ◌≢◌, ℕ, zero, suc, ◌+◌, ◌-◌, ◌≤◌, ◌<◌, ◌⊎◌, inl, inr, List, [], ◌∷◌, ◌++◌, length, Bool, true, false, cond, Option, Some, None, refl, sym, ap, ◌∙◌, subst, arith, append_assoc, length-append, leb, ltb, ◌&&◌}
+use Rattle.std.proofs.Common.{◌≡◌, ℕ, zero, suc, ◌+◌, ◌-◌, ◌≤◌, ◌⊎◌, inl, inr, List, [], ◌∷◌, ◌++◌, length, Bool, true, false, cond, Option, Some, None, refl, sym, ap, ◌∙◌, subst, arith, length-append, ltb}
 use Rattle.std.specs.List.{AllByRecursion}
-use Rattle.std.proofs.lemmas.List.{append-nil}
 use Rattle.std.proofs.lemmas.Bool.{leb-false, ltb-false}
 use Rattle.doip_segment.specs.declared.kind.Kind.{Kind}
 use Rattle.doip_segment.specs.declared.kind.Kind.TheVariants as kinds
@@ -12,12 +11,12 @@ use Rattle.doip_segment.specs.declared.class.Class.{Class}
 use Rattle.doip_segment.specs.declared.class.Class.TheVariants.{LineFeed, Blank, Hash, At, Digit, Other}
 use Rattle.doip_segment.specs.declared.phase.Phase.{Phase}
 use Rattle.doip_segment.specs.declared.phase.Phase.TheVariants.{Due, Text, LineStart, JsonEnd, BytesStart, ChunkDue, Digits, Padding, Data, DataEnd, BytesEnd, MessageEnd, Whole, Stuck}
-use Rattle.doip_segment.specs.Segments.{Segment, segment}
+use Rattle.doip_segment.specs.Segments.{segment}
 use Rattle.doip_segment.specs.Framing.{HoldsLimit}
-use Rattle.doip_segment.specs.Machine.{class_of, data_due, next_phase, added, closed, kept, limit_fault, passes_json, begins, stepped, stepped_within, advanced, run, is_done, Reading, start}
+use Rattle.doip_segment.specs.Machine.{class_of, data_due, next_phase, added, closed, kept, limit_fault, passes_json, stepped, stepped_within, advanced, run, is_done, Reading, start}
 use Rattle.doip_segment.specs.Decoding.{opened}
-use Rattle.doip_segment.proofs.FitLemmas.{closes, starts, opened_step, few_step, none_left, IsLetIn}
-use Rattle.doip_segment.proofs.WalkLemmas.{Core, core, moved, walk, outset, walk-append}
+use Rattle.doip_segment.proofs.FitLemmas.{closes, opened_step, few_step, none_left, IsLetIn}
+use Rattle.doip_segment.proofs.WalkLemmas.{Core, core, walk}
 use Rattle.doip_segment.proofs.TellLemmas.{all_push}
 
 -- the bytes, whatever the limits are

@@ -1,19 +1,18 @@
 -- A byte leaves the decoder's buffers large enough.
-use Rattle.std.proofs.Common.{◌≡◌, ℕ, zero, suc, ◌+◌, ◌-◌, ◌*◌, ◌≤◌, ◌<◌, ◌^◌, List, [], ◌∷◌, ◌++◌, length, Bool, true, false, Option, Some, None, refl, sym, ap, ◌∙◌, subst, arith, cond, ltb, leb, ◌&&◌}
+use Rattle.std.proofs.Common.{◌≡◌, ℕ, zero, suc, ◌+◌, ◌-◌, ◌*◌, ◌≤◌, ◌<◌, ◌^◌, length, Bool, true, false, Option, Some, None, refl, ap, ◌∙◌, arith, cond, ltb, leb, ◌&&◌}
 use Rattle.std.proofs.Math.Nat.{pow-suc, pow-le-pow_right}
 use Rattle.doip_segment.specs.declared.kind.Kind.{Kind}
 use Rattle.doip_segment.specs.declared.class.Class.{Class}
 use Rattle.doip_segment.specs.declared.class.Class.TheVariants.{LineFeed, Blank, Hash, At, Digit, Other}
 use Rattle.doip_segment.specs.declared.outcome.Limits.{Limits}
-use Rattle.doip_segment.specs.declared.outcome.Reason.{Reason}
 use Rattle.doip_segment.specs.declared.outcome.Reason.TheVariants as reasons
 use Rattle.doip_segment.specs.declared.phase.Phase.{Phase}
 use Rattle.doip_segment.specs.declared.phase.Phase.TheVariants.{Due, Text, LineStart, JsonEnd, BytesStart, ChunkDue, Digits, Padding, Data, DataEnd, BytesEnd, MessageEnd, Whole, Stuck}
-use Rattle.doip_segment.specs.Segments.{Segment, segment, Held}
+use Rattle.doip_segment.specs.Segments.{Held}
 use Rattle.std.proofs.lemmas.Bool.{leb-false}
 use borrow.Author.Tests.{ltb-true}
-use Rattle.doip_segment.specs.Machine.{Reading, limit_fault, passes_json, data_due, next_phase, after_digits, added, closed, begins, is_done, IsInRange}
-use Rattle.doip_segment.specs.Decoding.{held_back, opened, passed, Fits}
+use Rattle.doip_segment.specs.Machine.{Reading, limit_fault, passes_json, data_due, next_phase, added, closed, begins, IsInRange}
+use Rattle.doip_segment.specs.Decoding.{held_back, opened, Fits}
 
 -- one for a segment that is closed or begun
 abbrev pub closes : Option Kind → ℕ

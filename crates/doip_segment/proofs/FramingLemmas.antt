@@ -1,8 +1,7 @@
 -- What a reading says of the bytes that it took: a message, a fault, or neither.
-use Rattle.std.proofs.Common.{◌≡◌, ◌≢◌, ℕ, zero, suc, ◌+◌, ◌-◌, ◌*◌, ◌≤◌, ◌<◌, ◌⊎◌, inl, inr, List, [], ◌∷◌, ◌++◌, length, Bool, true, false, cond, Option, Some, None, refl, sym, ap, ◌∙◌, subst, arith, append_assoc, length-append, leb, ltb, ◌&&◌}
-use Rattle.std.specs.List.{AllByRecursion}
+use Rattle.std.proofs.Common.{◌≡◌, ◌≢◌, ℕ, zero, suc, ◌+◌, ◌-◌, ◌≤◌, ◌<◌, ◌⊎◌, inl, inr, List, [], ◌∷◌, ◌++◌, length, Bool, true, false, cond, Some, None, refl, sym, ap, ◌∙◌, subst, arith, append_assoc, length-append, leb, ltb, ◌&&◌}
 use Rattle.std.proofs.lemmas.List.{append-nil}
-use Rattle.std.proofs.lemmas.Bool.{leb-false, ltb-false}
+use Rattle.std.proofs.lemmas.Bool.{leb-false}
 use borrow.Author.Tests.{ltb-true, leb-true}
 use Rattle.doip_segment.specs.declared.outcome.Limits.{Limits}
 use Rattle.doip_segment.specs.declared.outcome.Reason.{Reason}
@@ -11,17 +10,17 @@ use Rattle.doip_segment.specs.declared.class.Class.{Class}
 use Rattle.doip_segment.specs.declared.class.Class.TheVariants.{LineFeed, Blank, Hash, At, Digit, Other}
 use Rattle.doip_segment.specs.declared.phase.Phase.{Phase}
 use Rattle.doip_segment.specs.declared.phase.Phase.TheVariants.{Due, Text, LineStart, JsonEnd, BytesStart, ChunkDue, Digits, Padding, Data, DataEnd, BytesEnd, MessageEnd, Whole, Stuck}
-use Rattle.doip_segment.specs.Segments.{Segment, segment}
+use Rattle.doip_segment.specs.Segments.{Segment}
 use Rattle.doip_segment.specs.Grammar.{IsWhite, IsSpelling}
 use Rattle.doip_segment.specs.Decoding.{opened}
-use Rattle.doip_segment.specs.Framing.{AtSegment, Spelt, NothingSpelt, IsTooLong, IsJsonTooLong, IsTooMany, IsUngrammatical, BreaksGrammar, IsFault, BehindData, ChunkIsDue, BehindDigits, Broken, IsUnfinished}
-use Rattle.doip_segment.specs.Machine.{class_of, data_due, next_phase, marker, after_digits, limit_fault, passes_json, begins, stepped, run, is_done, Reading, start}
+use Rattle.doip_segment.specs.Framing.{AtSegment, Spelt, IsTooLong, IsJsonTooLong, IsTooMany, IsUngrammatical, BreaksGrammar, IsFault, BehindData, ChunkIsDue, BehindDigits, Broken, IsUnfinished}
+use Rattle.doip_segment.specs.Machine.{class_of, data_due, next_phase, marker, after_digits, limit_fault, passes_json, begins, run, is_done, Reading, start}
 use Rattle.doip_segment.proofs.ClassLemmas.{Classified, classified, classified_as}
 use Rattle.doip_segment.proofs.FitLemmas.{none_left, IsLetIn}
-use Rattle.doip_segment.proofs.WalkLemmas.{Core, core, moved, walk, outset, walk-append, spelling_walk, stuck_walk, whole_walk, text_phase, waiting, text_step, is_feed, unless_feed, length_phase}
+use Rattle.doip_segment.proofs.WalkLemmas.{Core, core, moved, walk, outset, walk-append, spelling_walk, stuck_walk, text_phase, waiting, text_step, is_feed, unless_feed, length_phase}
 use Rattle.doip_segment.proofs.TellLemmas.{whole_spelling, digit_begins, other_begins, at_not_white}
-use Rattle.doip_segment.proofs.PositionLemmas.{due_phase, digits_phase, data_phase, too_long_passes, too_many_begins, due_at, text_at, chunk_at, digits_at, padding_at, data_at, front_of_spelling, Ends, ends_of}
-use Rattle.doip_segment.proofs.CleanLemmas.{go, core_of, core_go, count_go, go-append, Clean, Breaks, reach, clean_front, clean_at, clean_live, HoldsPending, Bounded, bounded_start}
+use Rattle.doip_segment.proofs.PositionLemmas.{due_phase, digits_phase, data_phase, too_long_passes, too_many_begins, due_at, text_at, chunk_at, digits_at, padding_at, data_at, front_of_spelling, ends_of}
+use Rattle.doip_segment.proofs.CleanLemmas.{go, core_of, core_go, count_go, go-append, Clean, reach, clean_front, clean_at, clean_live, HoldsPending, Bounded, bounded_start}
 
 -- the machine on lists, behind these bytes
 walk_go : (front : List ℕ) → walk outset front ≡ core_of (go start front)

@@ -1,5 +1,5 @@
 -- Laws of spellings, of framings and of faults.
-use Rattle.std.proofs.Common.{◌≡◌, ◌≢◌, ℕ, zero, suc, ◌+◌, ◌-◌, ◌*◌, ◌≤◌, ◌<◌, ◌⊎◌, inl, inr, List, [], ◌∷◌, ◌++◌, length, Bool, true, false, cond, Option, Some, None, refl, sym, ap, ◌∙◌, subst, arith, append_assoc, length-append}
+use Rattle.std.proofs.Common.{◌≡◌, ℕ, zero, suc, ◌+◌, ◌≤◌, ◌<◌, ◌⊎◌, inl, inr, List, [], ◌∷◌, ◌++◌, length, Bool, true, false, Option, Some, None, refl, sym, ap, ◌∙◌, subst, arith, length-append}
 use Rattle.std.proofs.lemmas.List.{append-nil, append_cancel_left}
 use Rattle.std.proofs.lemmas.Bool.{cases_lt}
 use Rattle.doip_segment.specs.declared.outcome.Limits.{Limits}
@@ -9,14 +9,13 @@ use Rattle.doip_segment.specs.declared.phase.Phase.{Phase}
 use Rattle.doip_segment.specs.declared.phase.Phase.TheVariants.{Due, Text, LineStart, JsonEnd, BytesStart, ChunkDue, Digits, Padding, Data, DataEnd, BytesEnd, MessageEnd, Whole, Stuck}
 use Rattle.doip_segment.specs.Segments.{Segment}
 use Rattle.doip_segment.specs.Grammar.{IsSpelling}
-use Rattle.doip_segment.specs.Framing.{Spelt, NothingSpelt, Framed, IsFault, Broken, ChunkIsDue, BehindDigits}
+use Rattle.doip_segment.specs.Framing.{Spelt, NothingSpelt, Framed, IsFault, Broken}
 use Rattle.doip_segment.specs.declared.class.Class.{Class}
 use Rattle.doip_segment.specs.Machine.{run, is_done, Reading, start, advanced, stepped_within, limit_fault, class_of}
-use Rattle.doip_segment.proofs.RunLemmas.{run-append}
-use Rattle.doip_segment.proofs.WalkLemmas.{Core, core, walk, outset, walk-append, spelling_walk, whole_walk}
-use Rattle.doip_segment.proofs.CleanLemmas.{run_done, live_step}
+use Rattle.doip_segment.proofs.WalkLemmas.{Core, walk, outset, walk-append, spelling_walk, whole_walk}
+use Rattle.doip_segment.proofs.CleanLemmas.{live_step}
 use Rattle.doip_segment.proofs.FramingLemmas.{whole_spelt, live_unfinished}
-use Rattle.doip_segment.proofs.SpeltLemmas.{ReadsTo, spelt_run, run_behind}
+use Rattle.doip_segment.proofs.SpeltLemmas.{spelt_run, run_behind}
 
 -- No spelling begins another, and each has one message.
 pub one_spelling : (bytes behind : List ℕ) (message other : List Segment) → IsSpelling bytes message → IsSpelling (bytes ++ behind) other → (behind ≡ []) × (message ≡ other)

@@ -1,24 +1,21 @@
 -- Places in the grammar, by the bytes before them and by the machine.
-use Rattle.std.proofs.Common.{◌≡◌, ◌≢◌, ℕ, zero, suc, ◌+◌, ◌-◌, ◌*◌, ◌≤◌, ◌<◌, ◌⊎◌, inl, inr, List, [], ◌∷◌, ◌++◌, length, map, Bool, true, false, cond, Option, Some, None, refl, sym, ap, ◌∙◌, subst, arith, append_assoc, length-append, eqb, leb, ltb}
+use Rattle.std.proofs.Common.{◌≡◌, ◌≢◌, ℕ, ◌+◌, ◌-◌, ◌≤◌, inl, inr, List, [], ◌∷◌, ◌++◌, length, map, Bool, true, false, refl, sym, ap, ◌∙◌, subst, arith, append_assoc, length-append, eqb}
 use Rattle.std.specs.List.{flat_map, AllByRecursion}
 use Rattle.std.proofs.lemmas.List.{append-nil, length-map, same_from_push, length-replicate}
 use Rattle.std.proofs.lemmas.Bool.{lt-ltb, le-leb}
 use Rattle.std.specs.Prelude.{replicate}
-use Rattle.doip_segment.specs.declared.kind.Kind.TheVariants as kinds
 use Rattle.doip_segment.specs.declared.outcome.Limits.{Limits}
-use Rattle.doip_segment.specs.declared.outcome.Reason.{Reason}
-use Rattle.doip_segment.specs.declared.outcome.Reason.TheVariants as reasons
 use Rattle.doip_segment.specs.declared.class.Class.{Class}
 use Rattle.doip_segment.specs.declared.class.Class.TheVariants.{LineFeed, Blank, Hash, At, Digit, Other}
 use Rattle.doip_segment.specs.declared.phase.Phase.{Phase}
 use Rattle.doip_segment.specs.declared.phase.Phase.TheVariants.{Due, Text, LineStart, JsonEnd, BytesStart, ChunkDue, Digits, Padding, Data, DataEnd, BytesEnd, MessageEnd, Whole, Stuck}
-use Rattle.doip_segment.specs.Segments.{Segment, segment}
-use Rattle.doip_segment.specs.Grammar.{IsBlank, IsWhite, IsDigit, value_of, ending, BeginsText, NoHash, IsText, IsLength, Chunk, IsChunk, chunk_bytes, content_of, Part, IsPart, part_bytes, segment_of_part, IsSpelling}
+use Rattle.doip_segment.specs.Segments.{Segment}
+use Rattle.doip_segment.specs.Grammar.{IsWhite, value_of, ending, NoHash, Chunk, chunk_bytes, content_of, Part, IsPart, part_bytes, segment_of_part, IsSpelling}
 use Rattle.doip_segment.specs.Framing.{OpensText, AtSegment, InText, InBytes, ChunkIsDue, BehindDigits, BehindData, IsJsonTooLong, IsTooMany}
-use Rattle.doip_segment.specs.Machine.{class_of, data_due, next_phase, passes_json, begins, is_done}
+use Rattle.doip_segment.specs.Machine.{class_of, data_due, passes_json, begins, is_done}
 use Rattle.doip_segment.proofs.ClassLemmas.{Classified, classified, classified_as}
-use Rattle.doip_segment.proofs.WalkLemmas.{Core, core, moved, walk, outset, walk-append, due_walk, text_phase, waiting, text_kept, ends_line, text_full, text_begins, text_step, is_feed, unless_feed, begins_line, bytes_opens, chunk_opens, length_walk, length_phase, padding_walk, data_walk}
-use Rattle.doip_segment.proofs.TellLemmas.{Told, Chunks, told, told_at, opens_push, whole_spelling}
+use Rattle.doip_segment.proofs.WalkLemmas.{Core, core, moved, walk, outset, walk-append, due_walk, text_phase, waiting, text_kept, ends_line, text_full, text_begins, begins_line, bytes_opens, chunk_opens, length_walk, length_phase, padding_walk, data_walk}
+use Rattle.doip_segment.proofs.TellLemmas.{Chunks, told_at, opens_push, whole_spelling}
 
 -- from the bytes to the machine
 

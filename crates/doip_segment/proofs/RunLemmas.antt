@@ -1,17 +1,16 @@
 -- What many bytes do at once.
-use Rattle.std.proofs.Common.{◌≡◌, ℕ, zero, suc, ◌+◌, ◌-◌, ◌≤◌, ◌<◌, List, [], ◌∷◌, ◌++◌, length, take, drop, Bool, true, false, Option, Some, None, refl, sym, ap, ◌∙◌, subst, arith, append_assoc, length-append, eqb, leb, ltb, get_or, eq-eqb}
+use Rattle.std.proofs.Common.{◌≡◌, ℕ, zero, suc, ◌+◌, ◌-◌, ◌≤◌, ◌<◌, List, [], ◌∷◌, ◌++◌, length, take, drop, true, refl, sym, ap, ◌∙◌, arith, append_assoc, length-append, eqb, get_or, eq-eqb}
 use Rattle.std.proofs.lemmas.List.{append-nil, get_or-take, take_more, length-take-le}
 use Rattle.std.proofs.Math.Seq.{take-add}
-use Rattle.std.proofs.lemmas.Bool.{lt-leb, le-ltb, leb-false, ltb-false}
+use Rattle.std.proofs.lemmas.Bool.{lt-leb, le-ltb}
 use Rattle.doip_segment.specs.declared.class.Class.{Class}
 use Rattle.doip_segment.specs.declared.class.Class.TheVariants.{LineFeed, Blank, Hash, At, Digit, Other}
 use Rattle.doip_segment.specs.declared.outcome.Limits.{Limits}
-use Rattle.doip_segment.specs.declared.outcome.Reason.{Reason}
 use Rattle.doip_segment.specs.declared.phase.Phase.{Phase}
-use Rattle.doip_segment.specs.declared.phase.Phase.TheVariants.{Due, Text, LineStart, JsonEnd, BytesStart, ChunkDue, Digits, Padding, Data, DataEnd, BytesEnd, MessageEnd, Whole, Stuck}
-use Rattle.doip_segment.specs.Segments.{Segment, segment}
+use Rattle.doip_segment.specs.declared.phase.Phase.TheVariants.{Text, LineStart, Data}
+use Rattle.doip_segment.specs.Segments.{Segment}
 use Rattle.doip_segment.proofs.ClassLemmas.{class_not_feed, eq_tests}
-use Rattle.doip_segment.specs.Machine.{class_of, data_due, next_phase, added, closed, limit_fault, stepped_within, stepped, advanced, run, is_done, Reading}
+use Rattle.doip_segment.specs.Machine.{class_of, data_due, limit_fault, stepped_within, advanced, run, Reading}
 
 -- a reading by its parts
 abbrev pub reading_of : List Segment → List ℕ → Phase → ℕ → Reading

@@ -1,15 +1,14 @@
 -- However a session is cut into pieces, its messages are those of its bytes.
-use Rattle.std.proofs.Common.{◌≡◌, ℕ, zero, suc, ◌+◌, ◌-◌, ◌≤◌, ◌<◌, List, [], ◌∷◌, ◌++◌, length, take, drop, refl, sym, ap, ◌∙◌, subst, arith, append_assoc, length-append}
-use Rattle.std.specs.List.{flat_map}
+use Rattle.std.proofs.Common.{◌≡◌, ℕ, ◌+◌, ◌≤◌, List, [], ◌∷◌, ◌++◌, length, take, drop, refl, sym, ap, ◌∙◌, subst, arith, append_assoc, length-append}
 use Rattle.std.proofs.lemmas.List.{append-nil, take-append-drop, take_all, length-take-le}
 use Rattle.doip_segment.specs.declared.outcome.Limits.{Limits}
 use Rattle.doip_segment.specs.declared.outcome.Reason.{Reason}
 use Rattle.doip_segment.specs.declared.outcome.Step.{Step}
 use Rattle.doip_segment.specs.declared.outcome.Step.TheVariants.{More, Message, Fault}
 use Rattle.doip_segment.specs.Segments.{Segment}
-use Rattle.doip_segment.specs.Framing.{Spelt, NothingSpelt, Framed, Broken, IsFault, IsUnfinished}
+use Rattle.doip_segment.specs.Framing.{NothingSpelt, Framed, Broken, IsUnfinished}
 use Rattle.doip_segment.specs.Decoding.{Frames}
-use Rattle.doip_segment.specs.Session.{Call, came_after, GoesOn, IsSession, bytes_of, message_at, messages_of, rest_of, EndsAt, Ends}
+use Rattle.doip_segment.specs.Session.{Call, came_after, IsSession, bytes_of, messages_of, rest_of, EndsAt, Ends}
 use Rattle.doip_segment.proofs.LawLemmas.{spelling_some, one_framing}
 
 -- a front of bytes that begin with no message begins with none

@@ -1,24 +1,21 @@
 -- A spelling within the limits is read to its end, whatever comes behind it.
-use Rattle.std.proofs.Common.{◌≡◌, ◌≢◌, ℕ, zero, suc, ◌+◌, ◌-◌, ◌*◌, ◌≤◌, ◌<◌, ◌⊎◌, inl, inr, List, [], ◌∷◌, ◌++◌, length, Bool, true, false, cond, Option, Some, None, refl, sym, ap, ◌∙◌, subst, arith, append_assoc, length-append, leb, ltb, ◌&&◌}
+use Rattle.std.proofs.Common.{◌≡◌, ℕ, zero, suc, ◌+◌, ◌-◌, ◌*◌, ◌≤◌, ◌<◌, List, [], ◌∷◌, ◌++◌, length, Bool, true, false, cond, Option, Some, None, refl, sym, ap, ◌∙◌, subst, arith, length-append, leb, ltb, ◌&&◌}
 use Rattle.std.specs.List.{AllByRecursion}
-use Rattle.std.proofs.lemmas.List.{append-nil}
-use Rattle.std.proofs.lemmas.Bool.{leb-false, ltb-false, lt-leb, le-ltb}
+use Rattle.std.proofs.lemmas.Bool.{lt-leb, le-ltb}
 use Rattle.doip_segment.specs.declared.kind.Kind.{Kind}
 use Rattle.doip_segment.specs.declared.kind.Kind.TheVariants as kinds
 use Rattle.doip_segment.specs.declared.outcome.Limits.{Limits}
-use Rattle.doip_segment.specs.declared.outcome.Reason.{Reason}
 use Rattle.doip_segment.specs.declared.outcome.Reason.TheVariants as reasons
 use Rattle.doip_segment.specs.declared.class.Class.{Class}
 use Rattle.doip_segment.specs.declared.class.Class.TheVariants.{LineFeed, Blank, Hash, At, Digit, Other}
 use Rattle.doip_segment.specs.declared.phase.Phase.{Phase}
 use Rattle.doip_segment.specs.declared.phase.Phase.TheVariants.{Due, Text, LineStart, JsonEnd, BytesStart, ChunkDue, Digits, Padding, Data, DataEnd, BytesEnd, MessageEnd, Whole, Stuck}
 use Rattle.doip_segment.specs.Segments.{Segment, segment}
-use Rattle.doip_segment.specs.Grammar.{IsSpelling}
-use Rattle.doip_segment.specs.Framing.{HoldsLimit, IsWithin, Spelt, NothingSpelt}
-use Rattle.doip_segment.specs.Machine.{class_of, data_due, next_phase, added, closed, kept, marker, limit_fault, passes_json, begins, stepped, stepped_within, advanced, run, is_done, Reading, start}
+use Rattle.doip_segment.specs.Framing.{HoldsLimit, Spelt}
+use Rattle.doip_segment.specs.Machine.{class_of, data_due, next_phase, added, closed, kept, limit_fault, passes_json, begins, stepped, stepped_within, run, is_done, Reading, start}
 use Rattle.doip_segment.specs.Decoding.{opened}
 use Rattle.doip_segment.proofs.RunLemmas.{run-append}
-use Rattle.doip_segment.proofs.WalkLemmas.{Core, core, moved, walk, outset, walk-append, spelling_walk, stuck_walk, whole_walk}
+use Rattle.doip_segment.proofs.WalkLemmas.{Core, core, moved, walk, spelling_walk, stuck_walk}
 use Rattle.doip_segment.proofs.CleanLemmas.{go, core_of, core_go, count_go, Clean, run_done, live_step}
 
 abbrev HoldsAll : Limits → List Segment → Type 0

@@ -1,22 +1,20 @@
 -- What each place of the machine tells of the bytes that led to it.
-use Rattle.std.proofs.Common.{◌≡◌, ◌≢◌, ℕ, zero, suc, ◌+◌, ◌-◌, ◌*◌, ◌≤◌, ◌<◌, ◌⊎◌, inl, inr, List, [], ◌∷◌, ◌++◌, length, map, Bool, true, false, cond, Option, Some, None, refl, sym, ap, ◌∙◌, subst, arith, append_assoc, length-append, eqb, leb, ltb}
+use Rattle.std.proofs.Common.{◌≡◌, ◌≢◌, ℕ, zero, suc, ◌+◌, ◌-◌, ◌*◌, ◌≤◌, ◌<◌, inl, inr, List, [], ◌∷◌, ◌++◌, length, map, Bool, true, false, cond, None, refl, sym, ap, ◌∙◌, subst, arith, append_assoc, length-append, eqb, ltb}
 use Rattle.std.specs.List.{flat_map, AllByRecursion}
-use Rattle.std.proofs.lemmas.List.{append-nil, map-append, length-map}
+use Rattle.std.proofs.lemmas.List.{append-nil, map-append}
 use borrow.Author.Tests.{ltb-true}
-use Rattle.doip_segment.specs.declared.kind.Kind.{Kind}
 use Rattle.doip_segment.specs.declared.kind.Kind.TheVariants as kinds
-use Rattle.doip_segment.specs.declared.outcome.Reason.{Reason}
 use Rattle.doip_segment.specs.declared.outcome.Reason.TheVariants as reasons
 use Rattle.doip_segment.specs.declared.class.Class.{Class}
 use Rattle.doip_segment.specs.declared.class.Class.TheVariants.{LineFeed, Blank, Hash, At, Digit, Other}
 use Rattle.doip_segment.specs.declared.phase.Phase.{Phase}
 use Rattle.doip_segment.specs.declared.phase.Phase.TheVariants.{Due, Text, LineStart, JsonEnd, BytesStart, ChunkDue, Digits, Padding, Data, DataEnd, BytesEnd, MessageEnd, Whole, Stuck}
 use Rattle.doip_segment.specs.Segments.{Segment, segment}
-use Rattle.doip_segment.specs.Grammar.{IsBlank, IsWhite, IsDigit, value_after, value_of, ending, BeginsText, NoHash, IsText, IsLength, Chunk, IsChunk, chunk_bytes, content_of, Part, TextPart, BytesPart, IsPart, part_bytes, segment_of_part, IsSpelling}
+use Rattle.doip_segment.specs.Grammar.{IsBlank, IsWhite, IsDigit, value_after, value_of, BeginsText, NoHash, IsText, IsLength, Chunk, IsChunk, chunk_bytes, content_of, Part, TextPart, BytesPart, IsPart, part_bytes, segment_of_part, IsSpelling}
 use Rattle.doip_segment.specs.Framing.{OpensText}
-use Rattle.doip_segment.specs.Machine.{class_of, data_due, next_phase, added, closed, kept, marker, after_digits}
-use Rattle.doip_segment.proofs.ClassLemmas.{Classified, classified, classified_as, eq_tests, eq_fails}
-use Rattle.doip_segment.proofs.WalkLemmas.{Core, core, moved, walk, outset, walk-append, ends_line}
+use Rattle.doip_segment.specs.Machine.{class_of, data_due, next_phase, added, closed, kept}
+use Rattle.doip_segment.proofs.ClassLemmas.{Classified, classified, eq_tests}
+use Rattle.doip_segment.proofs.WalkLemmas.{Core, core, moved, walk, outset, ends_line}
 
 pub all_push : {X : Type 0} (P : X → Type 0) (xs : List X) (x : X) → AllByRecursion P xs → P x → AllByRecursion P (xs ++ x ∷ [])
 all_push P [] x all here = (here, tt)

@@ -1,6 +1,6 @@
 -- The one spelling that the encoder writes: no white or blank byte outside contents, no leading zero, one chunk for a byte
 -- segment that has bytes, and no chunk for one that has none.
-use Rattle.std.specs.Prelude.{◌≡◌, ◌≢◌, ℕ, ◌^◌, ◌≤◌, ◌<◌, List, [], ◌∷◌, ◌++◌, length}
+use Rattle.std.specs.Prelude.{◌≢◌, ℕ, ◌^◌, ◌≤◌, ◌<◌, List, [], ◌∷◌, ◌++◌, length}
 use Rattle.std.specs.List.{flat_map, AllByRecursion}
 use Rattle.std.specs.Fmt.{decimal}
 use Rattle.doip_segment.specs.declared.kind.Kind.{Kind}

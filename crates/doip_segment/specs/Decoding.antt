@@ -1,5 +1,5 @@
 -- What contracts see of a decoder.
-use Rattle.std.specs.Prelude.{◌≡◌, ℕ, ◌+◌, ◌≤◌, ◌<◌, ◌⊎◌, List, [], ◌∷◌, ◌++◌, length, take, Bool, true, false, IsTrue}
+use Rattle.std.specs.Prelude.{◌≡◌, ℕ, ◌+◌, ◌≤◌, ◌⊎◌, List, [], ◌∷◌, ◌++◌, length, take}
 use Rattle.doip_segment.specs.declared.outcome.Limits.{Limits}
 use Rattle.doip_segment.specs.declared.outcome.Reason.{Reason}
 use Rattle.doip_segment.specs.declared.outcome.End.{End}
@@ -7,7 +7,7 @@ use Rattle.doip_segment.specs.declared.outcome.End.TheVariants as ends
 use Rattle.doip_segment.specs.declared.outcome.Step.{Step}
 use Rattle.doip_segment.specs.declared.outcome.Step.TheVariants as steps
 use Rattle.doip_segment.specs.declared.phase.Phase.{Phase}
-use Rattle.doip_segment.specs.declared.phase.Phase.TheVariants.{Due, Text, LineStart, JsonEnd, BytesStart, ChunkDue, Digits, Padding, Data, DataEnd, BytesEnd, MessageEnd, Whole, Stuck}
+use Rattle.doip_segment.specs.declared.phase.Phase.TheVariants.{Due, LineStart, MessageEnd, Whole, Stuck}
 use Rattle.doip_segment.specs.Segments.{Segment, Held}
 use Rattle.std.specs.List.{AllByRecursion}
 use Rattle.doip_segment.specs.Grammar.{IsWhite}

@@ -1,5 +1,5 @@
 -- Where a message keeps the segments in its one buffer.
-use Rattle.std.specs.Prelude.{◌≡◌, ℕ, ◌+◌, ◌-◌, ◌≤◌, ◌<◌, List, [], ◌∷◌, ◌++◌, length, take, drop, map, slice_range}
+use Rattle.std.specs.Prelude.{ℕ, ◌≤◌, List, [], ◌∷◌, slice_range}
 use Rattle.doip_segment.specs.declared.message.Extent.{Extent}
 use Rattle.doip_segment.specs.Segments.{Segment, segment}
 

@@ -1,5 +1,5 @@
 -- A message as a list of segments.
-use Rattle.std.specs.Prelude.{◌≡◌, ℕ, List, [], slice_index_or}
+use Rattle.std.specs.Prelude.{ℕ, List, [], slice_index_or}
 use Rattle.doip_segment.specs.declared.kind.Kind.{Kind}
 use Rattle.doip_segment.specs.declared.kind.Kind.TheVariants as kinds
 

@@ -4,7 +4,7 @@ use Rattle.std.specs.List.{flat_map}
 use Rattle.doip_segment.specs.declared.outcome.Limits.{Limits}
 use Rattle.doip_segment.specs.declared.outcome.Reason.{Reason}
 use Rattle.doip_segment.specs.declared.outcome.Step.{Step}
-use Rattle.doip_segment.specs.declared.outcome.Step.TheVariants.{More, Message, Fault}
+use Rattle.doip_segment.specs.declared.outcome.Step.TheVariants.{Message, Fault}
 use Rattle.doip_segment.specs.Segments.{Segment}
 use Rattle.doip_segment.specs.Framing.{Broken}
 use Rattle.doip_segment.specs.Decoding.{Frames}

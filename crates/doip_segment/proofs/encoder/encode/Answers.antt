@@ -1,9 +1,9 @@
-use Rattle.std.proofs.Common.{◌≡◌, ◌+◌, ◌<◌, ◌∷◌, [], ◌++◌, length, take, ap, sym, ◌∙◌, arith}
+use Rattle.std.proofs.Common.{◌<◌, [], ◌++◌, length, take, ap, sym, ◌∙◌, arith}
 use Rattle.std.specs.List.{flat_map}
-use Rattle.std.proofs.lemmas.List.{take_more, take_all, flat_map_more}
+use Rattle.std.proofs.lemmas.List.{take_more, flat_map_more}
 use Rattle.doip_segment.specs.declared.kind.Kind.TheVariants as kinds
 use Rattle.doip_segment.specs.Segments.{segment, segment_of}
-use Rattle.doip_segment.specs.Canonical.{content_text, segment_text, canonical}
+use Rattle.doip_segment.specs.Canonical.{content_text, segment_text}
 use Rattle.doip_segment.proofs.encoder.encode.Goals as goal
 
 pub loop-i-preserved : goal.loop-i-preserved

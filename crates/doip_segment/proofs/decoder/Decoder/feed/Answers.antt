@@ -1,6 +1,6 @@
-use Rattle.std.proofs.Common.{◌≡◌, ◌++◌, take, List, ℕ, ap, sym, ◌∙◌, subst}
+use Rattle.std.proofs.Common.{◌≡◌, ◌++◌, take, ap, sym, ◌∙◌, subst}
 use Rattle.doip_segment.specs.declared.outcome.Limits.{Limits}
-use Rattle.doip_segment.specs.Machine.{Reading, run, start}
+use Rattle.doip_segment.specs.Machine.{run, start}
 use Rattle.doip_segment.specs.Decoding.{outcome_of}
 use Rattle.doip_segment.proofs.AnswerLemmas.{end_answers, part_answers}
 use Rattle.doip_segment.proofs.FeedLemmas.{took_more, frames}

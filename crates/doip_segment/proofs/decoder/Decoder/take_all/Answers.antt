@@ -1,4 +1,4 @@
-use Rattle.std.proofs.Common.{◌≡◌, ◌+◌, ◌-◌, ◌≤◌, ◌<◌, ◌^◌, min, true, false, length, take, drop, List, ℕ, ap, sym, ◌∙◌, arith, refl}
+use Rattle.std.proofs.Common.{◌≡◌, ◌-◌, true, false, length, take, drop, ap, sym, ◌∙◌, arith, refl}
 use Rattle.std.proofs.lemmas.List.{take_rest, length-drop}
 use Rattle.doip_segment.specs.Decoding.{Decoding}
 use Rattle.doip_segment.specs.Machine.{run, is_done}

@@ -1,8 +1,8 @@
-use Rattle.std.proofs.Common.{◌≡◌, ◌+◌, ◌≤◌, ◌∷◌, [], ◌++◌, ℕ, length, Some, None, ap, sym, ◌∙◌, subst, arith, length-append}
+use Rattle.std.proofs.Common.{◌≡◌, ◌+◌, ◌∷◌, [], ℕ, length, ap, sym, ◌∙◌, subst, arith, length-append}
 use Rattle.doip_segment.specs.declared.class.Class.TheVariants.{Digit}
 use Rattle.doip_segment.specs.Segments.{segment}
-use Rattle.doip_segment.specs.Machine.{class_of, closed, added, limit_fault, next_phase}
-use Rattle.doip_segment.specs.Decoding.{Decoding, Fits}
+use Rattle.doip_segment.specs.Machine.{closed}
+use Rattle.doip_segment.specs.Decoding.{Decoding}
 use Rattle.doip_segment.proofs.ClassLemmas.{digit_small}
 use Rattle.doip_segment.proofs.FitLemmas.{IsLetIn, closes, closed_adds, none_left, fits_step}
 use Rattle.doip_segment.proofs.decoder.Decoder.take_byte.Goals as goal

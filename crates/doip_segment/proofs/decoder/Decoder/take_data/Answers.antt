@@ -1,6 +1,6 @@
-use Rattle.std.proofs.Common.{◌≡◌, ◌+◌, ◌<◌, ◌≤◌, ◌++◌, ℕ, length, take, ap, sym, ◌∙◌, subst, arith}
+use Rattle.std.proofs.Common.{◌≡◌, ◌+◌, ◌≤◌, length, ap, ◌∙◌, subst, arith}
 use Rattle.doip_segment.specs.declared.phase.Phase.TheVariants.{Data}
-use Rattle.doip_segment.specs.Machine.{run, data_due, IsInRange}
+use Rattle.doip_segment.specs.Machine.{IsInRange}
 use Rattle.doip_segment.specs.Decoding.{Decoding}
 use Rattle.doip_segment.proofs.RunLemmas.{reading_of, data_goes}
 use Rattle.doip_segment.proofs.decoder.Decoder.take_data.Goals as goal

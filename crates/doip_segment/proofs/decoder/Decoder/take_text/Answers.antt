@@ -1,8 +1,6 @@
-use Rattle.std.proofs.Common.{◌≡◌, ◌+◌, ◌<◌, ◌≤◌, ◌++◌, ℕ, length, take, ap, sym, ◌∙◌, subst, arith}
+use Rattle.std.proofs.Common.{◌≡◌, ◌+◌, ◌<◌, ◌≤◌, ◌++◌, length, take, ap, ◌∙◌, arith}
 use Rattle.std.proofs.lemmas.List.{length-take-le}
-use Rattle.memchr.specs.Find.{NoneBefore}
-use Rattle.doip_segment.specs.declared.phase.Phase.TheVariants.{Text, LineStart}
-use Rattle.doip_segment.specs.Machine.{run}
+use Rattle.doip_segment.specs.declared.phase.Phase.TheVariants.{Text}
 use Rattle.doip_segment.specs.Decoding.{Decoding}
 use Rattle.doip_segment.proofs.RunLemmas.{reading_of, text_ends, text_goes}
 use Rattle.doip_segment.proofs.decoder.Decoder.take_text.Goals as goal

@@ -1,5 +1,4 @@
-use Rattle.std.proofs.Common.{◌<◌, ◌≤◌, ◌≡◌, length, drop, [], ◌∷◌, ◌++◌, ap, sym, ◌∙◌, subst, arith, refl}
-use Rattle.std.specs.Prelude.{vec_len, vec_capacity}
+use Rattle.std.proofs.Common.{◌≤◌, ◌≡◌, length, [], ◌∷◌, ◌++◌, ap, sym, ◌∙◌, subst, arith}
 use Rattle.doip_segment.specs.Segments.{segment}
 use Rattle.doip_segment.specs.Place.{segments_in, AreWithin}
 use Rattle.doip_segment.proofs.PlaceLemmas.{length-segments_in, closed_segments, AreWithin-more, AreWithin-append}

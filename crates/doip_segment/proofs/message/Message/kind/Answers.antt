@@ -1,4 +1,4 @@
-use Rattle.std.proofs.Common.{[], ◌<◌, ◌≡◌, length, ap, sym, ◌∙◌, arith}
+use Rattle.std.proofs.Common.{[], ◌<◌, length, ap, sym, ◌∙◌, arith}
 use Rattle.doip_segment.specs.Segments.{segment, segment_of}
 use Rattle.doip_segment.specs.declared.kind.Kind.TheVariants.{Json}
 use Rattle.doip_segment.proofs.PlaceLemmas.{length-segments_in, segments_in-at}

@@ -1,5 +1,4 @@
-use Rattle.std.proofs.Common.{◌<◌, ◌≤◌, ◌≡◌, List, ℕ, length, drop, [], ◌∷◌, ◌++◌, ap, sym, ◌∙◌, subst, arith, length-append}
-use Rattle.doip_segment.specs.declared.message.Extent.{Extent}
+use Rattle.std.proofs.Common.{◌≤◌, ◌≡◌, length, [], ◌∷◌, ◌++◌, ap, sym, ◌∙◌, subst, arith, length-append}
 use Rattle.doip_segment.specs.Segments.{segment}
 use Rattle.doip_segment.specs.Place.{segments_in, AreWithin}
 use Rattle.doip_segment.proofs.PlaceLemmas.{pushed_segments, AreWithin-more, AreWithin-append}
