@@ -9,3 +9,5 @@ pub mod Outcomes
 pub mod Numerals
 pub mod ReadBack
 pub mod Tokens
+pub mod Depths
+pub mod Shape

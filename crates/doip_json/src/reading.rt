@@ -3,7 +3,7 @@ ghost use Rattle.std.specs.Prelude.{◌≡◌, ◌≢◌, ◌≤◌, ◌↔◌, 
 ghost use Rattle.serde_json.specs.Data.{depth as nesting, items_depth, members_depth};
 ghost use Rattle.serde_json.specs.Find.{as_integer};
 ghost use Rattle.serde_json.specs.View.{view, number_view, items_view, members_view};
-ghost use Rattle.doip_json.specs.Value.{whole, values_from, entries_from};
+ghost use Rattle.doip_json.specs.Value.{depth_of, whole, values_from, entries_from};
 ghost use Rattle.doip_json.specs.Meaning.{value_of};
 ghost use Rattle.doip_json.specs.Read.{reading, value_in, values_in, entries_in};
 ghost use Rattle.doip_json.specs.Whole.{IsNotWhole};
@@ -49,6 +49,7 @@ pub fn read(alloc: Global, bytes: &[u8], depth: u8) -> Result<Json, JsonFault>
     requires low { 1 ≤ depth }
     requires high { depth ≤ 127 }
     ensures value { IfOk result (λ json. reading bytes.now depth ≡ Ok (value_of json)) }
+    ensures nests { IfOk result (λ json. depth_of (value_of json) ≤ depth) }
     ensures fault { IfErr result (λ fault. fault ≢ JsonFault.Memory → reading bytes.now depth ≡ Err fault) }
 {
     match Value::from_slice(alloc, bytes) {
