@@ -11,3 +11,4 @@ pub mod ReadBack
 pub mod Tokens
 pub mod Depths
 pub mod Shape
+pub mod Building
