@@ -13,17 +13,22 @@ use crate::value::{Json, JsonList, JsonMap};
 use serde_json::{Map, Number, Value};
 use std::alloc::{AllocError, Global};
 use std::convert::From;
+use thiserror::Error;
 
 /// Why a text isn't read.
-#[derive(Clone, Copy, Debug, PartialEq, Eq, Drop)]
+#[derive(Clone, Copy, Debug, PartialEq, Eq, Drop, Error)]
 pub enum JsonFault {
     /// The bytes aren't UTF-8, or aren't a JSON text.
+    #[error("not JSON")]
     NotJson,
     /// A list or a table nests deeper than asked.
+    #[error("nested too deep")]
     TooDeep,
     /// A number has a fraction or an exponent, or is below -2^63 or above 2^64 - 1.
+    #[error("number is not whole")]
     NotWhole,
     /// There was no memory.
+    #[error("want of memory")]
     Memory,
 }
 

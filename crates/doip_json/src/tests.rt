@@ -308,3 +308,18 @@ fn texts_and_bytes_keep_their_contents(rt: HostRuntime) -> Result<(), Fail> {
     );
     Ok(())
 }
+
+#[test]
+fn each_fault_has_its_words(rt: HostRuntime) -> Result<(), Fail> {
+    let table = [
+        (JsonFault::NotJson, "not JSON"),
+        (JsonFault::TooDeep, "nested too deep"),
+        (JsonFault::NotWhole, "number is not whole"),
+        (JsonFault::Memory, "want of memory"),
+    ];
+    for (fault, words) in table {
+        let shown = fault.to_string(rt.alloc())?;
+        assert_eq!(rt; shown.as_str(), words);
+    }
+    Ok(())
+}

@@ -16,11 +16,17 @@ use std::marker::Model;
 #[cycle(json)]
 #[derive(Debug, Drop)]
 pub enum Json {
+    /// The word `null`.
     Null,
+    /// `true` or `false`.
     Truth(bool),
+    /// A number.
     Whole(Num),
+    /// A string.
     Text(Str),
+    /// An array.
     Items(JsonList),
+    /// An object.
     Table(JsonMap),
 }
 
