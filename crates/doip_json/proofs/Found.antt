@@ -20,7 +20,7 @@ lower_differs k l e = texts_ties k l ∙ ap is_eq (above k l e)
 greater_differs : (k l : List ℕ) → compared l k ≡ Greater → pointwise nat_eq k l ≡ false
 greater_differs k l e = texts_ties k l ∙ ap is_eq (below l k e)
 
-same_key : (k l : List ℕ) → l ≡ k → pointwise nat_eq k l ≡ true
+pub same_key : (k l : List ℕ) → l ≡ k → pointwise nat_eq k l ≡ true
 same_key k l e = texts_ties k l ∙ ap is_eq (ap (compared k) e ∙ compared_self k)
 
 pub found : (es : Pairs) (k : List ℕ) (i : ℕ) (v : Value) → IsAscending (keys_of es) → i < length es → key_of es i ≡ k → slice_get (values_of es) i ≡ Some v → entry_of k (entries_from es) ≡ Some v
@@ -41,7 +41,7 @@ absent es k i gap = none_there es k (λ j h. elim (cases_lt j i) [
   | inr after ↦ greater_differs k (key_of es j) (gap.greater j after h)
 ])
 
-differs : (k l : List ℕ) → k ≢ l → pointwise nat_eq k l ≡ false
+pub differs : (k l : List ℕ) → k ≢ l → pointwise nat_eq k l ≡ false
 differs k l other = cases (pointwise nat_eq k l) refl
   where
     cases : (b : Bool) → b ≡ pointwise nat_eq k l → pointwise nat_eq k l ≡ false

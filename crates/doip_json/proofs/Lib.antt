@@ -11,3 +11,6 @@ pub mod Numerals
 pub mod ReadBack
 pub mod Tokens
 pub mod OneLine
+pub mod Depths
+pub mod Shape
+pub mod Building

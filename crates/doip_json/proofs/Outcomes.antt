@@ -9,7 +9,8 @@ use Rattle.doip_json.specs.declared.reading.JsonFault.TheVariants.{NotJson, TooD
 use Rattle.std.proofs.Common.{◌≢◌, IfOk, IfErr}
 use Rattle.doip_json.specs.declared.reading.JsonFault.{JsonFault}
 use Rattle.doip_json.specs.declared.value.Json.{Json}
-use Rattle.doip_json.specs.Value.{Value}
+use Rattle.doip_json.specs.Value.{Value, depth_of}
+use Rattle.doip_json.proofs.Depths.{depth_of-value_in}
 use Rattle.doip_json.specs.Meaning.{value_of}
 use Rattle.doip_json.specs.Whole.{IsNotWhole}
 use Rattle.doip_json.specs.Read.{value_in, or_fault, within_depth, if_data, reading}
@@ -43,3 +44,7 @@ converted_value (Err fault) o outcome is value = tt
 pub converted_fault : (r : Result Json JsonFault) (o : Option Value) (outcome : Result Value JsonFault) → outcome ≡ or_fault NotWhole o → IfErr r (IsNotWhole o) → IfErr r (λ fault. fault ≢ Memory → outcome ≡ Err fault)
 converted_fault (Ok json) o outcome is why = tt
 converted_fault (Err fault) o outcome is why = λ other. is ∙ (ap (or_fault NotWhole) (why other).1 ∙ ap Err (sym (why other).0))
+
+pub converted_depth : (r : Result Json JsonFault) (d : parsed.Data) (depth : ℕ) → parsed.depth d ≤ depth → IfOk r (λ json. value_in d ≡ Some (value_of json)) → IfOk r (λ json. depth_of (value_of json) ≤ depth)
+converted_depth (Ok json) d depth shallow value = let same = depth_of-value_in d (value_of json) value in omega arith
+converted_depth (Err fault) d depth shallow value = tt

@@ -1,6 +1,6 @@
 -- The canonical text of a value (RFC 8259; compact, with one spelling for each value, is this project's own).
-use Rattle.std.specs.Prelude.{ℕ, ◌/◌, ◌%◌, List, [], ◌∷◌, ◌++◌, true, false, ◌||◌, ◌==◌, nat_lt, if◌then◌else◌, flat_map, codes}
-use Rattle.std.specs.Char.{digit_char}
+use Rattle.std.specs.Prelude.{ℕ, ◌≤◌, Bool, IsTrue, All, slice_index, ◌/◌, ◌%◌, List, [], ◌∷◌, ◌++◌, true, false, ◌||◌, ◌==◌, nat_lt, if◌then◌else◌, flat_map, codes}
+use Rattle.std.specs.Char.{digit_char, is_ascii_digit}
 use Rattle.std.specs.Fmt.{signed_decimal}
 use Rattle.std.specs.List.{join_with_byte}
 use Rattle.doip_json.specs.Value.{Value, null, truth, whole, text, list, table, Values, no_values, value, Entries, no_entries, entry}
@@ -41,3 +41,12 @@ abbrev mutual
   pub entry_texts : Entries → List (List ℕ)
   entry_texts no_entries = []
   entry_texts (entry k v es) = (string_of k ++ 58 ∷ text_of v) ∷ entry_texts es
+
+-- the bytes that a value's text may begin with
+abbrev pub begins_value : ℕ → Bool
+begins_value x = is_ascii_digit x || (x == 34) || (x == 45) || (x == 91) || (x == 102) || (x == 110) || (x == 116) || (x == 123)
+
+-- a text that stands in one line: it begins as a value does, and has no byte below 0x20
+pub record IsOneLine (bytes : List ℕ) : Type 0 where
+  pub begins : IsTrue (begins_value (slice_index bytes 0))
+  pub printable : All (λ b. 32 ≤ b) bytes

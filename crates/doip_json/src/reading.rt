@@ -3,7 +3,7 @@ ghost use Rattle.std.specs.Prelude.{◌≡◌, ◌≢◌, ◌≤◌, ◌↔◌, 
 ghost use Rattle.serde_json.specs.Data.{depth as nesting, items_depth, members_depth};
 ghost use Rattle.serde_json.specs.Find.{as_integer};
 ghost use Rattle.serde_json.specs.View.{view, number_view, items_view, members_view};
-ghost use Rattle.doip_json.specs.Value.{whole, values_from, entries_from};
+ghost use Rattle.doip_json.specs.Value.{depth_of, whole, values_from, entries_from};
 ghost use Rattle.doip_json.specs.Meaning.{value_of};
 ghost use Rattle.doip_json.specs.Read.{reading, value_in, values_in, entries_in};
 ghost use Rattle.doip_json.specs.Whole.{IsNotWhole};
@@ -13,17 +13,22 @@ use crate::value::{Json, JsonList, JsonMap};
 use serde_json::{Map, Number, Value};
 use std::alloc::{AllocError, Global};
 use std::convert::From;
+use thiserror::Error;
 
 /// Why a text isn't read.
-#[derive(Clone, Copy, Debug, PartialEq, Eq, Drop)]
+#[derive(Clone, Copy, Debug, PartialEq, Eq, Drop, Error)]
 pub enum JsonFault {
     /// The bytes aren't UTF-8, or aren't a JSON text.
+    #[error("not JSON")]
     NotJson,
     /// A list or a table nests deeper than asked.
+    #[error("nested too deep")]
     TooDeep,
     /// A number has a fraction or an exponent, or is below -2^63 or above 2^64 - 1.
+    #[error("number is not whole")]
     NotWhole,
     /// There was no memory.
+    #[error("want of memory")]
     Memory,
 }
 
@@ -49,6 +54,7 @@ pub fn read(alloc: Global, bytes: &[u8], depth: u8) -> Result<Json, JsonFault>
     requires low { 1 ≤ depth }
     requires high { depth ≤ 127 }
     ensures value { IfOk result (λ json. reading bytes.now depth ≡ Ok (value_of json)) }
+    ensures nests { IfOk result (λ json. depth_of (value_of json) ≤ depth) }
     ensures fault { IfErr result (λ fault. fault ≢ JsonFault.Memory → reading bytes.now depth ≡ Err fault) }
 {
     match Value::from_slice(alloc, bytes) {

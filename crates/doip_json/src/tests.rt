@@ -22,7 +22,7 @@ fn outcome(alloc: Global, bytes: &[u8]) -> Result<Vec<u8>, AllocError> {
 
 #[test]
 fn each_text_has_its_value_or_its_fault(rt: HostRuntime) -> Result<(), Fail> {
-    let table: [(&[u8], &[u8]); 51] = [
+    let table: [(&[u8], &[u8]); 52] = [
         (b"null", b"null"),
         (b"true", b"true"),
         (b"false", b"false"),
@@ -39,6 +39,10 @@ fn each_text_has_its_value_or_its_fault(rt: HostRuntime) -> Result<(), Fail> {
             b"{\"\":3,\"B\":2,\"a\":1,\"ab\":4}",
         ),
         (b"{\"\xc3\xa9\":1,\"z\":2}", b"{\"z\":2,\"\xc3\xa9\":1}"),
+        (
+            b"{\"\xc3\xa9\":[1, -2],\"a\":\"\\/\\u000B\"}",
+            b"{\"a\":\"/\\u000b\",\"\xc3\xa9\":[1,-2]}",
+        ),
         // Twice the same key leaves one entry.
         (b"{\"a\":1,\"a\":1}", b"{\"a\":1}"),
         // Numbers.
@@ -302,5 +306,20 @@ fn texts_and_bytes_keep_their_contents(rt: HostRuntime) -> Result<(), Fail> {
         Bytes::from_vec(bytes.into_vec()).get(),
         b"\x00\xff".as_slice()
     );
+    Ok(())
+}
+
+#[test]
+fn each_fault_has_its_words(rt: HostRuntime) -> Result<(), Fail> {
+    let table = [
+        (JsonFault::NotJson, "not JSON"),
+        (JsonFault::TooDeep, "nested too deep"),
+        (JsonFault::NotWhole, "number is not whole"),
+        (JsonFault::Memory, "want of memory"),
+    ];
+    for (fault, words) in table {
+        let shown = fault.to_string(rt.alloc())?;
+        assert_eq!(rt; shown.as_str(), words);
+    }
     Ok(())
 }

@@ -17,11 +17,17 @@ use std::mem;
 #[cycle(json)]
 #[derive(Debug, Drop)]
 pub enum Json {
+    /// The word `null`.
     Null,
+    /// `true` or `false`.
     Truth(bool),
+    /// A number.
     Whole(Num),
+    /// A string.
     Text(Str),
+    /// An array.
     Items(JsonList),
+    /// An object.
     Table(JsonMap),
 }
 

@@ -4,7 +4,7 @@ ghost use Rattle.std.specs.Fmt.{signed_decimal};
 ghost use Rattle.json.specs.Token.{begin_array, end_array, begin_object, end_object, number as json_number};
 ghost use Rattle.doip_json.specs.Value.{values_from, entries_from};
 ghost use Rattle.doip_json.specs.Meaning.{value_of};
-ghost use Rattle.doip_json.specs.Text.{text_of};
+ghost use Rattle.doip_json.specs.Text.{text_of, IsOneLine};
 ghost use Rattle.doip_json.specs.Tokens.{tokens_of, item_tokens, entry_tokens};
 
 use crate::leaf::{Bytes, Num};
@@ -17,8 +17,10 @@ use std::alloc::{AllocError, Global};
 ///
 /// One pass, which copies the bytes between escapes in bulk.
 pub fn text(alloc: Global, value: &Json) -> Result<Bytes, AllocError>
-    ensures { IfOk result (λ bytes. bytes ≡ text_of (value_of value.now)) }
+    ensures value { IfOk result (λ bytes. bytes ≡ text_of (value_of value.now)) }
+    ensures one_line { IfOk result IsOneLine }
 {
+    value.recall();
     let mut out = Writer::new(Vec::new(alloc));
     write(value, &mut out)?;
     Ok(Bytes::from_vec(out.into_inner()))

@@ -3,7 +3,7 @@ use Rattle.std.proofs.lemmas.Bool.{cases_lt}
 use mathlib.Core.Bool.{false≢true}
 use Rattle.serde_json.specs.Data.{depth}
 use Rattle.serde_json.specs.View.{view}
-use Rattle.doip_json.proofs.Outcomes.{reading_some, reading_none, within_shallow, within_deep, converted_value, converted_fault}
+use Rattle.doip_json.proofs.Outcomes.{reading_some, reading_none, within_shallow, within_deep, converted_value, converted_fault, converted_depth}
 use Rattle.doip_json.proofs.reading.read.Goals as goal
 
 pub returns-then-nests_within-clause-value : goal.returns-then-nests_within-clause-value
@@ -33,3 +33,7 @@ returns-else-nests_within-clause-fault c _ =
 
 pub returns-else-is_memory-clause-fault : goal.returns-else-is_memory-clause-fault
 returns-else-is_memory-clause-fault c _ = reading_none c.args.bytes.now c.args.depth (c.in-Err.ensures.err (λ memory. false≢true (c.if-is_memory.ensures.1 memory)))
+
+pub returns-then-nests_within-clause-nests : goal.returns-then-nests_within-clause-nests
+returns-then-nests_within-clause-nests c =
+    converted_depth c.json_of.result (view c.in-Ok.parsed) c.args.depth (c.if-nests_within.ensures.0 refl) c.json_of.ensures.value
