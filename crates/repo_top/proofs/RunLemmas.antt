@@ -79,9 +79,9 @@ ran taken left written faults config limits input old link end new zero s =
         rest = s.rest;
         framed = s.framed;
         ends = subst (λ (es : List Entry). EndsSo limits config es s.messages s.rest s.gave s.wrote (behind.rest ≡ []) 0 (faults link) end) (sym same)
-          (subst (λ (b : ℕ). EndsSo limits config s.entries s.messages s.rest s.gave s.wrote (behind.rest ≡ []) b (faults link) end) zero
+            (subst (λ (b : ℕ). EndsSo limits config s.entries s.messages s.rest s.gave s.wrote (behind.rest ≡ []) b (faults link) end) zero
             (end_as limits config s.entries s.messages s.rest s.gave s.wrote (IsAtEnd (left link)) (behind.rest ≡ []) (faults old) (faults link) end
-              (at_end_is (left link) behind.rest behind.is) s.ends));
+            (at_end_is (left link) behind.rest behind.is) s.ends));
       };
     }
 

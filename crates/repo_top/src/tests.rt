@@ -1,14 +1,18 @@
-//! Whole runs over memory.
+//! Whole runs over memory: worked rows, cuts, lengths of reads and writes, and faults at each call.
 use super::*;
 use doip_json::Str;
+use doip_segment::Reason;
 use link_core::{MemoryHost, MemoryLink};
 use std::alloc::{AllocError, Global};
 use std::test::Fail;
 
 const HELLO: &[u8] = b"{\"operationId\":\"0.DOIP/Op.Hello\",\"targetId\":\"35.TEST/svc\"}\n#\n#\n";
 
-const HELLO_DONE: &[u8] =
+const DONE: &[u8] =
     b"{\"output\":{\"attributes\":{\"ipAddress\":\"127.0.0.1\",\"port\":9000,\"protocol\":\"TCP\",\"protocolVersion\":\"2.0\"},\"id\":\"35.TEST/svc\",\"type\":\"0.TYPE/DOIPServiceInfo\"},\"status\":\"0.DOIP/Status.001\"}\n#\n#\n";
+
+const FRAMING: &[u8] =
+    b"{\"attributes\":{\"message\":\"framing fault\"},\"status\":\"0.DOIP/Status.101\"}\n#\n#\n";
 
 fn words(alloc: Global, texts: &[&str]) -> Result<Words, AllocError> {
     let mut words = Words::empty(alloc);
@@ -18,17 +22,228 @@ fn words(alloc: Global, texts: &[&str]) -> Result<Words, AllocError> {
     Ok(words)
 }
 
+fn joined(alloc: Global, texts: &[&[u8]]) -> Result<Vec<u8>, AllocError> {
+    let mut all = Vec::new(alloc);
+    for text in texts {
+        all.extend_from_slice(text)?;
+    }
+    Ok(all)
+}
+
+// Runs a command over a host with one link.
+fn run(alloc: Global, texts: &[&str], link: MemoryLink) -> Result<Ran<MemoryHost>, Fail> {
+    let mut host = MemoryHost::new(alloc, Vec::new(alloc));
+    host.add_console(link)?;
+    let words = words(alloc, texts)?;
+    Ok(run_plain(alloc, &words, &mut host))
+}
+
+// Runs `answer 35.TEST/svc` over these bytes.
+fn answer(alloc: Global, bytes: &[u8]) -> Result<Ran<MemoryHost>, Fail> {
+    run(
+        alloc,
+        &["answer", "35.TEST/svc"],
+        MemoryLink::of(alloc, bytes)?,
+    )
+}
+
+fn written(ran: &Ran<MemoryHost>) -> &[u8] {
+    match &ran.link {
+        Some(link) => link.written(),
+        None => b"no link",
+    }
+}
+
 #[test]
-fn hello_is_answered(rt: HostRuntime) -> Result<(), Fail> {
+fn worked_rows_are_answered(rt: HostRuntime) -> Result<(), Fail> {
+    let alloc = rt.alloc();
+    let refused: &[(&[u8], &[u8])] = &[
+        (
+            b"#\n",
+            b"{\"attributes\":{\"message\":\"no segment\"},\"status\":\"0.DOIP/Status.101\"}\n#\n#\n",
+        ),
+        (
+            b"@\n#\n#\n",
+            b"{\"attributes\":{\"message\":\"first segment is bytes\"},\"status\":\"0.DOIP/Status.101\"}\n#\n#\n",
+        ),
+        (
+            b"{\"input\":{\"a\":1.5},\"operationId\":\"0.DOIP/Op.Create\",\"targetId\":\"35.TEST/svc\"}\n#\n#\n",
+            b"{\"attributes\":{\"message\":\"first segment: number is not whole\"},\"status\":\"0.DOIP/Status.101\"}\n#\n#\n",
+        ),
+        (
+            b"{\"operationId\":\"x/y\",\"targetId\":\"35.TEST/svc\"}\n#\n#\n",
+            b"{\"attributes\":{\"message\":\"operation unknown\"},\"status\":\"0.DOIP/Status.200\"}\n#\n#\n",
+        ),
+        (
+            b"{\"operationId\":\"0.DOIP/Op.Hello\",\"targetId\":\"35.TEST/none\"}\n#\n#\n",
+            b"{\"attributes\":{\"message\":\"target unknown\"},\"status\":\"0.DOIP/Status.104\"}\n#\n#\n",
+        ),
+    ];
+    for (request, reply) in refused {
+        let ran = answer(alloc, &joined(alloc, &[request, HELLO])?)?;
+        assert_eq!(rt; written(&ran), joined(alloc, &[reply, DONE])?.as_slice());
+        assert_eq!(rt;
+            (ran.status, ran.note, ran.end),
+            (0, Note::Nothing, Some(SessionEnd::Ended))
+        );
+    }
+    let lenient =
+        b"{\n  \"requestId\": \"a\",\n  \"clientId\": \"me\",\n  \"targetId\": \"35.TEST/svc\",\n  \"operationId\": \"0.DOIP/Op.Hello\",\n  \"attributes\": {},\n  \"extra\": [1]\n}\n#\r\n#\r\n";
+    let ran = answer(alloc, lenient)?;
+    let marked =
+        b"\"type\":\"0.TYPE/DOIPServiceInfo\"},\"requestId\":\"a\",\"status\":\"0.DOIP/Status.001\"}\n#\n#\n";
+    assert!(rt; written(&ran).ends_with(marked.as_slice()));
+    let none = answer(alloc, b"")?;
+    assert_eq!(rt;
+        (none.status, none.end, written(&none)),
+        (0, Some(SessionEnd::Ended), b"".as_slice())
+    );
+    Ok(())
+}
+
+#[test]
+fn hello_is_answered_in_any_pieces(rt: HostRuntime) -> Result<(), Fail> {
+    let alloc = rt.alloc();
+    for length in 1..HELLO.len() {
+        let mut lengths = Vec::from_slice(alloc, &[length])?;
+        if length < 8 {
+            for _ in 0..HELLO.len() {
+                lengths.push(length)?;
+            }
+        }
+        let bytes = Vec::from_slice(alloc, HELLO)?;
+        let link = MemoryLink::new(alloc, bytes, lengths, Vec::new(alloc), Vec::new(alloc));
+        let ran = run(alloc, &["answer", "35.TEST/svc"], link)?;
+        assert_eq!(rt; written(&ran), DONE, "at {length}");
+        assert_eq!(rt; ran.status, 0);
+    }
+    let mut ones = Vec::new(alloc);
+    for _ in 0..DONE.len() {
+        ones.push(1)?;
+    }
+    let bytes = Vec::from_slice(alloc, HELLO)?;
+    let slow = MemoryLink::new(alloc, bytes, Vec::new(alloc), ones, Vec::new(alloc));
+    assert_eq!(rt;
+        written(&run(alloc, &["answer", "35.TEST/svc"], slow)?),
+        DONE
+    );
+    Ok(())
+}
+
+#[test]
+fn a_session_ends_cut_or_framing(rt: HostRuntime) -> Result<(), Fail> {
+    let alloc = rt.alloc();
+    for length in 1..HELLO.len() {
+        let place = length as u64;
+        let ran = answer(alloc, &HELLO[..length])?;
+        assert_eq!(rt;
+            ran.note,
+            Note::End(SessionEnd::Cut { place }),
+            "at {length}"
+        );
+        assert_eq!(rt; (ran.status, written(&ran)), (0, b"".as_slice()));
+    }
+    let limited = &["answer", "35.TEST/svc", "--request", "64"];
+    let fits = run(
+        alloc,
+        limited,
+        MemoryLink::of(alloc, &joined(alloc, &[b" ", HELLO])?)?,
+    )?;
+    assert_eq!(rt; written(&fits), DONE);
+    let long = run(
+        alloc,
+        limited,
+        MemoryLink::of(alloc, &joined(alloc, &[b"  ", HELLO])?)?,
+    )?;
+    let end = SessionEnd::Framing {
+        place: 65,
+        reason: Reason::TooLong,
+    };
+    assert_eq!(rt;
+        (long.status, long.note, written(&long)),
+        (0, Note::End(end), FRAMING)
+    );
+    Ok(())
+}
+
+#[test]
+fn each_failed_call_ends_the_session(rt: HostRuntime) -> Result<(), Fail> {
+    let alloc = rt.alloc();
+    for call in 0..4 {
+        let bytes = joined(alloc, &[HELLO, b"#x"])?;
+        let failing = Vec::from_slice(alloc, &[call])?;
+        let link = MemoryLink::new(alloc, bytes, Vec::new(alloc), Vec::new(alloc), failing);
+        let ran = run(alloc, &["answer", "35.TEST/svc"], link)?;
+        let (status, texts): (u8, &[&[u8]]) = match call {
+            0 | 1 => (7, &[]),
+            2 => (7, &[DONE]),
+            _ => (0, &[DONE, FRAMING]),
+        };
+        assert_eq!(rt; ran.status, status, "at {call}");
+        assert_eq!(rt;
+            written(&ran),
+            joined(alloc, texts)?.as_slice(),
+            "at {call}"
+        );
+    }
+    Ok(())
+}
+
+#[test]
+fn two_sessions_run_one_after_another(rt: HostRuntime) -> Result<(), Fail> {
     let alloc = rt.alloc();
     let mut host = MemoryHost::new(alloc, Vec::new(alloc));
     host.add_console(MemoryLink::of(alloc, HELLO)?)?;
+    host.add_console(MemoryLink::of(alloc, HELLO)?)?;
     let words = words(alloc, &["answer", "35.TEST/svc"])?;
-    let ran = run_plain(alloc, &words, &mut host);
-    assert_eq!(rt; ran.status, 0);
-    match ran.link {
-        Some(link) => assert_eq!(rt; link.written(), HELLO_DONE),
-        None => return Err(Fail::from("no link")),
+    for _ in 0..2 {
+        let ran = run_plain(alloc, &words, &mut host);
+        assert_eq!(rt; (ran.status, written(&ran)), (0, DONE));
     }
+    let none = run_plain(alloc, &words, &mut host);
+    assert_eq!(rt; (none.status, none.note, none.end), (9, Note::Host, None));
+    assert_eq!(rt; host.console_calls(), 3);
+    Ok(())
+}
+
+#[test]
+fn faulty_words_are_told(rt: HostRuntime) -> Result<(), Fail> {
+    let alloc = rt.alloc();
+    let faulty: &[&[&str]] = &[
+        &[],
+        &["answer"],
+        &["answer", ""],
+        &["serve", "s"],
+        &["answer", "s", "--port"],
+        &["answer", "s", "--port", "0"],
+        &["answer", "s", "--port", "65536"],
+        &["answer", "s", "--port", "+1"],
+        &["answer", "s", "--port", "01"],
+        &["answer", "s", "--port", "1", "--port", "2"],
+        &["answer", "s", "--request", "63"],
+        &["answer", "s", "--request", "16777217"],
+        &["answer", "s", "--lanes", "1"],
+    ];
+    for texts in faulty {
+        let ran = run(alloc, texts, MemoryLink::of(alloc, HELLO)?)?;
+        assert_eq!(rt; (ran.status, ran.note, ran.end), (2, Note::Words, None));
+        assert!(rt; ran.link.is_none());
+    }
+    let options = &[
+        "answer",
+        "35.TEST/svc",
+        "--port",
+        "65535",
+        "--address",
+        "::1",
+        "--request",
+        "16777216",
+    ];
+    let ran = run(alloc, options, MemoryLink::of(alloc, HELLO)?)?;
+    assert!(rt;
+        written(&ran).starts_with(
+            b"{\"output\":{\"attributes\":{\"ipAddress\":\"::1\",\"port\":65535,".as_slice()
+        )
+    );
     Ok(())
 }
