@@ -1,0 +1,7 @@
+pub mod Ends
+pub mod Histories
+pub mod Lists
+pub mod Meeting
+pub mod Moves
+pub mod Turning
+pub mod Views
