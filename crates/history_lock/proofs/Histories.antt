@@ -8,6 +8,7 @@ use Rattle.history_lock.specs.declared.board.Entered.{Entered}
 use Rattle.history_lock.specs.declared.board.Share.{Share}
 use Rattle.history_lock.specs.History.{entered, entries_by, held, AreOwn, AreBelow, Runs}
 use Rattle.history_lock.specs.Rule.{AreBegun, AreCounted}
+use Rattle.history_lock.specs.Told.{grown}
 use Rattle.history_lock.proofs.Lists.{same_here, same_else, prefix_trans, prefix_whole}
 
 module _ {E : Type 0} where
@@ -66,6 +67,10 @@ module _ {E : Type 0} where
   pub held-append : (k : ℕ) (ss ts : List (Share E)) → held k (ss ++ ts) ≡ held k ss + held k ts
   held-append k [] ts = omega arith
   held-append k (s ∷ ss) ts = omega (arith, held-append k ss ts)
+
+pub grown-length : {E : Type 0} (e : E) (ss : List (Share E)) → length (grown e ss) ≡ length ss
+grown-length e [] = refl
+grown-length e (s ∷ ss) = omega arith
 
 pub begun_grows : {A : Type 0} (xs : List (List A)) (h h' : List A) → IsPrefix h h' → AreBegun xs h → AreBegun xs h'
 begun_grows [] h h' p b = tt

@@ -1,5 +1,5 @@
 -- What a contract sees of a lock and of its passes.
-use Rattle.std.specs.Prelude.{◌≡◌, ℕ, List, [], ◌∷◌, ◌++◌, Option, Some, slice_get, vec_len, ◌+◌}
+use Rattle.std.specs.Prelude.{◌≡◌, ℕ, List, [], ◌∷◌, ◌++◌, Option, Some, slice_get, vec_len, ◌+◌, ◌-◌}
 use Rattle.atomic_table.specs.Seated.{TableId}
 use Rattle.history_lock.specs.declared.board.Entered.{Entered}
 use Rattle.history_lock.specs.declared.board.Share.{Share}
@@ -61,12 +61,19 @@ module _ {T C R E : Type 0} {g : Ghosts T C R E} where
   abbrev pub lock_of_all : Passes T C R E g → LockId T
   lock_of_all ps = (ps.source.table_id, ps.source.me.0.first)
 
-  -- how many there were, and how many nobody has taken
+  -- how many there were, how many nobody has taken, and how many were taken
   abbrev pub all_of : Passes T C R E g → ℕ
   all_of ps = ps.all
 
   abbrev pub left_of : Passes T C R E g → ℕ
   left_of ps = vec_len ps.waiting
+
+  abbrev pub taken_of : Passes T C R E g → ℕ
+  taken_of ps = all_of ps - left_of ps
+
+  -- a pass of this lock with this number, which has seen nothing and has no entries
+  abbrev pub IsFresh : LockId T → ℕ → Pass T C R E g → Type 0
+  IsFresh id k p = (lock_of p ≡ id) × (seen p ≡ []) × (shares p ≡ (record { number = k; own = [] }) ∷ [])
 
 -- Each pass has seen nothing, and has its own number alone: the last has the number 0.
 abbrev pub AreDealt : {T C R E : Type 0} {g : Ghosts T C R E} → LockId T → ℕ → List (Pass T C R E g) → Type 0

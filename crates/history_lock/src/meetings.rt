@@ -38,6 +38,8 @@ fn tell<T: Turned>(lock: &Shared<T>, seat: &mut Place<T>, other: &mut Place<T>)
 }
 
 impl<T: Turned> Shared<T> {
+    /// Tells each of two passes what the other has seen. Both have then seen one history, which begins with what either
+    /// had seen. It waits for nobody and takes no memory.
     pub fn meet(&self, a: &mut Pass<T>, b: &mut Pass<T>)
         requires lock { (lock_of a.old ≡ id_of self.now) × (lock_of b.old ≡ id_of self.now) }
         ensures lock { (lock_of a.new ≡ lock_of a.old) × (lock_of b.new ≡ lock_of b.old) }
@@ -49,6 +51,8 @@ impl<T: Turned> Shared<T> {
         tell(self, &mut b.seat, &mut a.seat);
     }
 
+    /// Ends a pass, and gives its numbers and their entries to another, which keeps its own number and has then seen the
+    /// longer of the two histories. It waits for nobody and takes no memory.
     pub fn join(&self, into: &mut Pass<T>, from: Pass<T>)
         requires lock { (lock_of into.old ≡ id_of self.now) × (lock_of from ≡ id_of self.now) }
         ensures lock { lock_of into.new ≡ lock_of into.old }
@@ -60,10 +64,12 @@ impl<T: Turned> Shared<T> {
         absorb(self, &mut into.seat, seat);
     }
 
+    /// Closes the lock with the pass that stands for all of its numbers, and gives the value back. The record is the one
+    /// history, which leaves this value. It has the entries of each number, in their order, and no others.
     pub fn close(self, pass: Pass<T>) -> (T, Record<T>)
         requires lock { lock_of pass ≡ id_of self }
         requires all { length (shares pass) ≡ passes_of self }
-        ensures record_ { (past result.1 ≡ seen pass) × (past_shares result.1 ≡ shares pass) }
+        ensures past { (past result.1 ≡ seen pass) × (past_shares result.1 ≡ shares pass) }
         ensures value { Runs (Leads T.step) (first_of self) (entries (past result.1)) result.0 }
         ensures own { AreOwn (past result.1) (past_shares result.1) }
         ensures taken { AreBelow (passes_of self) (past result.1) × ((k : ℕ) → k < passes_of self → held k (past_shares result.1) ≡ 1) }

@@ -1,7 +1,7 @@
 //! How a lock is opened, and its passes are dealt.
-ghost use Rattle.std.specs.Prelude.{◌≡◌, ◌+◌, ◌<◌, ◌≤◌, false, [], ◌∷◌, ◌++◌, IfOk, IfErr, IfSome, IsNone, ◌↔◌, Some, vec_len, vec_capacity};
+ghost use Rattle.std.specs.Prelude.{◌≡◌, ◌+◌, ◌-◌, ◌<◌, ◌≤◌, false, [], ◌∷◌, ◌++◌, IfOk, IfErr, IfSome, IsNone, ◌↔◌, Some, vec_len, vec_capacity};
 ghost use Rattle.history_lock.specs.Rule.{fresh, opening_view};
-ghost use Rattle.history_lock.specs.Passes.{id_of, first_of, passes_of, lock_of, seen, shares, number, lock_of_all, all_of, left_of, AreDealt};
+ghost use Rattle.history_lock.specs.Passes.{id_of, first_of, passes_of, lock_of_all, all_of, left_of, taken_of, IsFresh, AreDealt};
 
 use crate::board::{Origin, Place, Slot};
 use crate::lock::Shared;
@@ -87,6 +87,8 @@ fn deal<T: Turned>(
 }
 
 impl<T: Turned> Shared<T> {
+    /// Opens a lock over a value, with 1 to 64 passes. Without memory the value comes back. The answer's first part is
+    /// to be closed and its second to be ended, and each pass is to be spent: none of them can be let go.
     pub fn open(
         alloc: Global,
         value: T,
@@ -121,14 +123,17 @@ impl<T: Turned> Shared<T> {
 }
 
 impl<T: Turned> Passes<T> {
+    /// Takes the next pass. The numbers go up from 0. `None` comes exactly where all were taken.
     pub fn take(&mut self) -> Option<Pass<T>>
         ensures none { IsNone result ↔ (left_of self.old ≡ 0) }
-        ensures some { IfSome result (λ p. (lock_of p ≡ lock_of_all self.old) × (seen p ≡ []) × (shares p ≡ (record { number = number p; own = [] }) ∷ []) × (number p + left_of self.old ≡ all_of self.old) × (left_of self.new + 1 ≡ left_of self.old)) }
+        ensures some { IfSome result (IsFresh (lock_of_all self.old) (taken_of self.old)) }
+        ensures left { left_of self.new ≡ left_of self.old - 1 }
         ensures rest { (lock_of_all self.new ≡ lock_of_all self.old) × (all_of self.new ≡ all_of self.old) }
     {
         self.waiting.pop()
     }
 
+    /// Gives up the passes once all were taken.
     pub fn end(self)
         requires { left_of self ≡ 0 }
     {

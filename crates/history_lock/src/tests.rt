@@ -1,9 +1,8 @@
-//! A counter that threads add to.
+//! Counters that threads add to.
 ghost use Rattle.std.specs.Prelude.{◌≡◌, ◌+◌, ◌%◌, ◌^◌};
 
-use crate::{Pass, Passes, Record, Shared, Turned};
+use crate::{Shared, Turned};
 use std::test::Fail;
-use std::thread::join;
 
 /// A sum that wraps.
 #[derive(Drop)]
@@ -40,11 +39,51 @@ fn two_passes_over_a_counter(rt: HostRuntime) -> Result<(), Fail> {
         panic!(rt; "no pass")
     };
     passes.end();
-    lock.apply(&rt, &mut one, 2);
-    lock.apply(&rt, &mut two, 3);
+    let first = lock.apply(&rt, &mut one, 2);
+    let second = lock.apply(&rt, &mut two, 3);
     lock.meet(&mut one, &mut two);
     lock.join(&mut one, two);
     let (counter, _past) = lock.close(one);
-    assert!(rt; counter.sum == 5);
+    assert!(rt; first == 2 && second == 5 && counter.sum == 5);
+    Ok(())
+}
+
+#[test]
+fn a_turn_after_a_meeting_sees_the_turn_before_it(rt: HostRuntime) -> Result<(), Fail> {
+    let Ok((lock, mut passes)) = Shared::open(rt.alloc(), Counter { sum: 0 }, 2) else {
+        panic!(rt; "no memory")
+    };
+    let Some(mut one) = passes.take() else {
+        panic!(rt; "no pass")
+    };
+    let Some(mut two) = passes.take() else {
+        panic!(rt; "no pass")
+    };
+    passes.end();
+    lock.apply(&rt, &mut one, 2);
+    lock.meet(&mut one, &mut two);
+    let reply = lock.apply(&rt, &mut two, 3);
+    lock.join(&mut one, two);
+    let (counter, _past) = lock.close(one);
+    assert!(rt; reply == 5 && counter.sum == 5);
+    Ok(())
+}
+
+#[test]
+fn no_pass_is_left_after_the_last(rt: HostRuntime) -> Result<(), Fail> {
+    let Ok((lock, mut passes)) = Shared::open(rt.alloc(), Counter { sum: 7 }, 1) else {
+        panic!(rt; "no memory")
+    };
+    let Some(mut one) = passes.take() else {
+        panic!(rt; "no pass")
+    };
+    let mut left = false;
+    if let Some(more) = passes.take() {
+        lock.join(&mut one, more);
+        left = true;
+    }
+    passes.end();
+    let (counter, _past) = lock.close(one);
+    assert!(rt; !left && counter.sum == 7);
     Ok(())
 }

@@ -1,6 +1,6 @@
 //! What a value has to offer to be taken in turns.
 
-/// A value that answers one call at a time.
+/// A value that answers one call at a time. Its turns make the history of a lock, one entry a turn.
 pub trait Turned {
     type Call;
 
@@ -17,6 +17,7 @@ pub trait Turned {
     /// Which turns there are: the value before, the call, the entry, the reply and the value after.
     ghost step: { Self → Self.Call → Self.Entry → Self.Reply → Self → Type 0 };
 
+    /// Takes one turn. It may end in any way that `step` allows.
     fn turn(&mut self, call: Self::Call) -> Self::Reply
         requires { may_take call }
         ensures { step self.old call (entry_of self.old call result self.new) result self.new };

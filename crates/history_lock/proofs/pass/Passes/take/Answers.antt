@@ -1,6 +1,5 @@
-use Rattle.std.proofs.Common.{◌≡◌, ◌+◌, ◌≤◌, [], ◌∷◌, ◌++◌, ℕ, List, Option, Some, None, IfSome, length, slice_get, vec_len, refl, ap, sym, ◌∙◌, arith}
-use Rattle.history_lock.specs.Told.{number_of}
-use Rattle.history_lock.specs.Passes.{number}
+use Rattle.std.proofs.Common.{◌≡◌, [], ◌∷◌, ◌++◌, Option, Some, None, IfSome, length, slice_get, option_to_list, refl, ap, ◌∙◌, arith}
+use Rattle.history_lock.specs.Passes.{taken_of}
 use Rattle.history_lock.proofs.Lists.{get_longer, get_last}
 use Rattle.history_lock.proofs.pass.Passes.take.Goals as goal
 
@@ -16,8 +15,8 @@ invariant_of-self g c = let room = c.args.self.now.room in let len = c.pop.ensur
 
 pub returns-clause-some : goal.returns-clause-some
 returns-clause-some g c = where_some c.pop.result _ (λ p is.
-    let items = c.pop.ensures.items ∙ ap (λ o. c.pop.new.self.items ++ Rattle.std.proofs.Common.option_to_list o) is in
+    let items = c.pop.ensures.items ∙ ap (λ o. c.pop.new.self.items ++ option_to_list o) is in
     let facts = c.args.self.now.dealt (length c.pop.new.self.items) p (ap (λ xs. slice_get xs (length c.pop.new.self.items)) items ∙ get_last c.pop.new.self.items p) in
-    let len = c.pop.ensures.len in let one : length (Rattle.std.proofs.Common.option_to_list c.pop.result) ≡ 1 = ap (λ o. length (Rattle.std.proofs.Common.option_to_list o)) is in
-    let long = c.pop.new.self.ok.0 in let numbered : number p ≡ p.number = ap number_of facts.3 in let place = facts.4 in
-    ((λ i. (facts.0 i, facts.1 i)), facts.2, facts.3 ∙ ap (λ n. (record { number = n; own = [] }) ∷ []) (sym numbered), omega arith, omega arith))
+    let len = c.pop.ensures.len in let one : length (option_to_list c.pop.result) ≡ 1 = ap (λ o. length (option_to_list o)) is in
+    let long = c.pop.new.self.ok.0 in let place = facts.4 in let number : p.number ≡ taken_of c.args.self.now = omega arith in
+    ((λ i. (facts.0 i, facts.1 i)), facts.2, facts.3 ∙ ap (λ n. (record { number = n; own = [] }) ∷ []) number))
