@@ -1,0 +1,124 @@
+//! The table that all passes share. Word 0 counts the tickets that were drawn, word 1 the turns that were taken, and
+//! word k + 2 the turns that the pass with the number k took. The slot holds the value.
+ghost use Rattle.std.specs.Prelude.{◌≡◌};
+
+use crate::turned::Turned;
+use atomic_table::{Seat, Table, TableRule};
+use std::alloc::Global;
+use std::collections::LinkedList;
+use std::marker::PhantomData;
+use std::snapshot::Snapshot;
+
+/// One turn of a history: the number of the pass that took it, and its entry.
+pub struct Entered<E> {
+    pub by: u64,
+    pub entry: E,
+}
+
+/// A number that a pass stands for, and the entries of the turns that were taken under it.
+pub struct Share<E> {
+    pub number: u64,
+    pub own: LinkedList<E, Global>,
+}
+
+/// What a seat knows. No value of it is made.
+pub struct View<T, E> {
+    pub first: Option<T>,
+    pub seen: LinkedList<Entered<E>, Global>,
+    pub noted: LinkedList<LinkedList<Entered<E>, Global>, Global>,
+    pub shares: LinkedList<Share<E>, Global>,
+    pub tickets: LinkedList<u64, Global>,
+    pub come: bool,
+    pub announced: LinkedList<E, Global>,
+}
+
+/// A turn that was taken, for the proofs alone.
+pub struct Asked<T, C, R> {
+    pub old: Snapshot<T>,
+    pub call: Snapshot<C>,
+    pub reply: Snapshot<R>,
+}
+
+/// Where the value stands between turns, with the turn that was taken last.
+pub struct Slot<T, C, R> {
+    pub value: Option<T>,
+    pub asked: Option<Asked<T, C, R>>,
+}
+
+impl<T, C, R> Drop for Asked<T, C, R> {
+    fn drop(self) {
+        let Self { old, call, reply } = self;
+        drop(old);
+        drop(call);
+        drop(reply);
+    }
+}
+
+impl<T, C, R> Slot<T, C, R> {
+    pub(crate) fn empty() -> Slot<T, C, R>
+        ensures { (result.value ≡ None) × (result.asked ≡ None) }
+    {
+        Slot {
+            value: None,
+            asked: None,
+        }
+    }
+
+    pub(crate) fn into_value(self) -> T
+        requires { (value : T) × (self.value ≡ Some value) }
+        ensures { self.value ≡ Some result }
+    {
+        let Slot { value, asked } = self;
+        drop(asked);
+        let Some(value) = value else { unreachable!() };
+        value
+    }
+
+    pub(crate) fn discard(self)
+        requires { self.value ≡ None }
+    {
+        let Slot { value, asked } = self;
+        drop(asked);
+        let None = value else { unreachable!() };
+    }
+}
+
+/// What was opened: the value at first, and how many passes there are.
+pub struct Origin<T> {
+    pub first: Snapshot<T>,
+    pub passes: u64,
+}
+
+impl<T> Drop for Origin<T> {
+    fn drop(self) {
+        let Self { first, passes: _ } = self;
+        drop(first);
+    }
+}
+
+/// The rule of the table.
+pub struct Turns<T> {
+    of: PhantomData<T>,
+}
+
+impl<T: Turned> TableRule<Slot<T, T::Call, T::Reply>, View<T, T::Entry>, Origin<T>> for Turns<T> {
+    ghost use Rattle.history_lock.specs.Rule.{Kept, opening_view};
+    ghost use Rattle.history_lock.specs.History.{Leads};
+
+    ghost holds = { λ key. Kept (Leads T.step) key.first.value key.passes };
+
+    ghost first = { λ key. opening_view key.first.value key.passes };
+}
+
+pub type Board<T> = Table<
+    Slot<T, <T as Turned>::Call, <T as Turned>::Reply>,
+    View<T, <T as Turned>::Entry>,
+    Origin<T>,
+    Turns<T>,
+    Global,
+>;
+
+pub type Place<T> = Seat<
+    Slot<T, <T as Turned>::Call, <T as Turned>::Reply>,
+    View<T, <T as Turned>::Entry>,
+>;

@@ -1,0 +1,147 @@
+//! How a lock is opened, and its passes are dealt.
+ghost use Rattle.std.specs.Prelude.{◌≡◌, ◌+◌, ◌-◌, ◌<◌, ◌≤◌, false, [], ◌∷◌, ◌++◌, IfOk, IfErr, IfSome, IsNone, ◌↔◌, Some, vec_len, vec_capacity};
+ghost use Rattle.history_lock.specs.Rule.{fresh, opening_view};
+ghost use Rattle.history_lock.specs.Passes.{id_of, first_of, passes_of, lock_of_all, all_of, left_of, taken_of, IsFresh, AreDealt};
+
+use crate::board::{Origin, Place, Slot};
+use crate::lock::Shared;
+use crate::pass::{Pass, Passes};
+use crate::plays::Deal;
+use crate::turned::Turned;
+use atomic_table::{Refused, Table};
+use std::alloc::{AllocError, Global};
+use std::snapshot::Snapshot;
+
+// The most passes, and the words beside theirs.
+const MOST_WORDS: usize = 64 + 2;
+
+fn lay<T: Turned>(
+    alloc: Global,
+    value: T,
+    passes: usize,
+) -> Result<(Shared<T>, Place<T>), (T, AllocError)>
+    requires { passes ≤ 64 }
+    ensures ok { IfOk result (λ r. (first_of r.0 ≡ value) × (passes_of r.0 ≡ passes) × (r.1.table_id ≡ r.0.table.shared.table_id) × (r.1.me ≡ (opening_view value passes, []))) }
+    ensures err { IfErr result (λ r. r.0 ≡ value) }
+{
+    let origin = Origin {
+        first: Snapshot::of(&value),
+        passes: passes as u64,
+    };
+    let mut slots = Vec::new(alloc);
+    let slot = Slot {
+        value: Some(value),
+        asked: None,
+    };
+    if let Err(failed) = slots.push(slot) {
+        slots.destroy_empty();
+        return Err((failed.value.into_value(), AllocError));
+    }
+    let words = [0u64; MOST_WORDS];
+    match Table::new(alloc, &words[..passes + 2], slots, &origin) {
+        Ok((table, seat)) => Ok((Shared { table }, seat)),
+        Err(Refused { mut slots }) => {
+            let Some(slot) = slots.pop() else {
+                unreachable!()
+            };
+            slots.destroy_empty();
+            Err((slot.into_value(), AllocError))
+        }
+    }
+}
+
+// There is room for it.
+fn add<T: Turned>(waiting: &mut Vec<Pass<T>>, pass: Pass<T>)
+    requires { vec_len waiting.old < vec_capacity waiting.old }
+    ensures items { waiting.new.items ≡ waiting.old.items ++ pass ∷ [] }
+    ensures len { vec_len waiting.new ≡ vec_len waiting.old + 1 }
+    ensures capacity { vec_capacity waiting.old ≤ vec_capacity waiting.new }
+{
+    if let Err(failed) = waiting.push(pass) {
+        let Pass { seat, number: _ } = failed.value;
+        drop(seat);
+        unreachable!()
+    }
+}
+
+// Splits a pass off for each number, the largest first.
+fn deal<T: Turned>(
+    lock: &Shared<T>,
+    source: &mut Place<T>,
+    waiting: &mut Vec<Pass<T>>,
+    passes: usize,
+)
+    requires lock { (source.old.table_id ≡ lock.now.table.shared.table_id) × (source.old.me ≡ (opening_view lock.now.table.shared.key.first.value lock.now.table.shared.key.passes, [])) × (passes ≡ lock.now.table.shared.key.passes) }
+    requires room { (waiting.old.items ≡ []) × (passes ≤ vec_capacity waiting.old) }
+    ensures source { (source.new.table_id ≡ source.old.table_id) × (source.new.me.0.first ≡ source.old.me.0.first) }
+    ensures waiting { (vec_len waiting.new ≡ passes) × AreDealt (source.old.table_id, source.old.me.0.first) passes waiting.new.items }
+{
+    for dealt in 0..passes {
+        let seat = lock.table.shared.split_seat::<Deal>(source);
+        let pass = Pass {
+            seat,
+            number: passes - 1 - dealt,
+        };
+        add(waiting, pass);
+    }
+}
+
+impl<T: Turned> Shared<T> {
+    /// Opens a lock over a value, with 1 to 64 passes. Without memory the value comes back. The answer's first part is
+    /// to be closed and its second to be ended, and each pass is to be spent: none of them can be let go.
+    pub fn open(
+        alloc: Global,
+        value: T,
+        passes: u32,
+    ) -> Result<(Shared<T>, Passes<T>), (T, AllocError)>
+        requires { (1 ≤ passes) × (passes ≤ 64) }
+        ensures ok { IfOk result (λ r. (first_of r.0 ≡ value) × (passes_of r.0 ≡ passes) × (lock_of_all r.1 ≡ id_of r.0) × (all_of r.1 ≡ passes) × (left_of r.1 ≡ passes)) }
+        ensures err { IfErr result (λ r. r.0 ≡ value) }
+    {
+        let all = passes as usize;
+        let Ok(mut waiting) = Vec::with_capacity(alloc, all) else {
+            return Err((value, AllocError));
+        };
+        match lay(alloc, value, all) {
+            Ok((lock, mut source)) => {
+                deal(&lock, &mut source, &mut waiting, all);
+                Ok((
+                    lock,
+                    Passes {
+                        source,
+                        waiting,
+                        all,
+                    },
+                ))
+            }
+            Err(refused) => {
+                waiting.destroy_empty();
+                Err(refused)
+            }
+        }
+    }
+}
+
+impl<T: Turned> Passes<T> {
+    /// Takes the next pass. The numbers go up from 0. `None` comes exactly where all were taken.
+    pub fn take(&mut self) -> Option<Pass<T>>
+        ensures none { IsNone result ↔ (left_of self.old ≡ 0) }
+        ensures some { IfSome result (IsFresh (lock_of_all self.old) (taken_of self.old)) }
+        ensures left { left_of self.new ≡ left_of self.old - 1 }
+        ensures rest { (lock_of_all self.new ≡ lock_of_all self.old) × (all_of self.new ≡ all_of self.old) }
+    {
+        self.waiting.pop()
+    }
+
+    /// Gives up the passes once all were taken.
+    pub fn end(self)
+        requires { left_of self ≡ 0 }
+    {
+        let Passes {
+            source: _,
+            waiting,
+            all: _,
+        } = self;
+        waiting.destroy_empty();
+    }
+}
