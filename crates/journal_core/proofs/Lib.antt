@@ -1,0 +1,6 @@
+mod Lists
+mod Parts
+mod Runs
+mod Unique
+mod Meanings
+mod Commits

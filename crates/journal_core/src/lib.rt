@@ -1,0 +1,6 @@
+//! A journal.
+#![tactic(auto)]
+
+mod journal;
+
+pub use journal::{CommitFault, Journal, Room};
