@@ -4,3 +4,6 @@ mod Runs
 mod Unique
 mod Meanings
 mod Commits
+mod Fields
+mod Headers
+mod Opens

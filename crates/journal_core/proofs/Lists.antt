@@ -1,7 +1,8 @@
 -- Lists of bytes: pieces written into them, and what a torn write leaves.
 use Rattle.std.proofs.Common.{◌≡◌, ◌≢◌, ℕ, zero, suc, ◌+◌, ◌-◌, ◌≤◌, ◌<◌, min, max, List, [], ◌∷◌, ◌++◌, length, get_or, take, drop, replicate, refl, sym, ◌∙◌, ap, subst, arith, append_assoc, length-append, length-take, length-drop, take-append-drop}
 use Rattle.std.proofs.lemmas.List.{length-replicate, append-nil, take_all, take_at, drop_at, take_min, take-take, take-append-le, drop-append-le, drop_all, drop-drop, drop_more}
-use Rattle.disk_core.specs.Disk.{written, Torn, Same}
+use Rattle.std.proofs.Math.Seq.{take-append-add}
+use Rattle.disk_core.specs.Disk.{written, Torn}
 
 -- a piece that begins where a front ends
 pub written_behind : (front tail piece : List ℕ) (place : ℕ) → length front ≡ place → written place piece (front ++ tail) ≡ front ++ (piece ++ drop (length piece) tail)
@@ -93,3 +94,18 @@ written_more place first second file =
 -- torn in the range, and then in a part of it
 pub torn_part : (place n at size : ℕ) → place ≤ at → at + size ≤ place + n → (a b c : List ℕ) → Torn place n a b → Torn at size b c → Torn place n a c
 torn_part place n at size low high a b c first second = torn_then place n a b c first (torn_within place n at size b c low high second)
+
+-- a read joins what was read before it
+pub read_more : (into sub behind file : List ℕ) (filled count place : ℕ) → filled ≤ length into → count ≤ length sub → filled ≤ length (drop place file) → take filled into ≡ take filled (drop place file)
+    → take count sub ≡ take count (drop (place + filled) file) → take (filled + count) (take filled into ++ (sub ++ behind)) ≡ take (filled + count) (drop place file)
+read_more into sub behind file filled count place within fits inside before now =
+    let size : length (take filled into) ≡ filled = omega (arith, length-take filled into) in
+    let also : length (take filled (drop place file)) ≡ filled = omega (arith, length-take filled (drop place file)) in
+    let cut : (first rest : List ℕ) → length first ≡ filled → take (filled + count) (first ++ rest) ≡ first ++ take count rest =
+    λ first rest is. ap (λ (n : ℕ). take (n + count) (first ++ rest)) (sym is) ∙ take-append-add first rest count in
+    cut (take filled into) (sub ++ behind) size
+    ∙ ap (λ (l : List ℕ). take filled into ++ l) (take-append-le count sub behind fits ∙ now)
+    ∙ ap (λ (l : List ℕ). l ++ take count (drop (place + filled) file)) before
+    ∙ ap (λ (l : List ℕ). take filled (drop place file) ++ take count l) (sym (drop-drop filled place file))
+    ∙ sym (cut (take filled (drop place file)) (drop filled (drop place file)) also)
+    ∙ ap (λ (l : List ℕ). take (filled + count) l) (take-append-drop filled (drop place file))

@@ -63,11 +63,14 @@ IsNotAStore file = (area side : ℕ) → HasHeader file area side → inside_of 
 abbrev pub HasVersion : List ℕ → ℕ → Type 0
 HasVersion file byte = (area : ℕ) × (side : ℕ) × (rest : List ℕ) × HasHeader file area side × (inside_of file area side ≡ byte ∷ rest) × (byte ≢ 1)
 
+-- no whole length, body and next gate begin here
+abbrev pub LacksRecord : List ℕ → Type 0
+LacksRecord behind = (body : List ℕ) (gate : ℕ) (rest : List ℕ) → behind ≢ big_endian (length body) ++ (body ++ gate ∷ rest)
+
 -- Behind these whole records the file is damaged: it ends right behind the version byte, or an open gate stands there,
 -- and behind that no whole length, body and next gate.
 abbrev pub IsBroken : List (List ℕ) → List ℕ → Type 0
-IsBroken bodies tail = ((bodies ≡ []) × (tail ≡ [])) ⊎ ((behind : List ℕ) × (tail ≡ 1 ∷ behind)
-    × ((body : List ℕ) (gate : ℕ) (rest : List ℕ) → behind ≢ big_endian (length body) ++ (body ++ gate ∷ rest)))
+IsBroken bodies tail = ((bodies ≡ []) × (tail ≡ [])) ⊎ ((behind : List ℕ) × (tail ≡ 1 ∷ behind) × LacksRecord behind)
 
 -- the gate at this place of the file is missing, or open with no whole record behind it
 abbrev pub IsDamaged : List ℕ → ℕ → Type 0

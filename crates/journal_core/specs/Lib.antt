@@ -1,3 +1,5 @@
 pub mod File
 pub mod Stops
 pub mod Journal
+pub mod Area
+pub mod Open

@@ -1,14 +1,15 @@
 //! The journal: bodies in a file, each of them lasting before it is acknowledged.
-ghost use Rattle.std.specs.Prelude.{◌≡◌, ◌⊎◌, ◌*◌, ◌+◌, ◌^◌, ◌<◌, ◌≤◌, ◌↔◌, ◌++◌, [], ◌∷◌, List, ℕ, Some, length, IsSome, IfErr, OnOk, OnErr, IsErrOf};
+ghost use Rattle.std.specs.Prelude.{◌≡◌, ◌⊎◌, ◌*◌, ◌+◌, ◌^◌, ◌<◌, ◌≤◌, ◌↔◌, ◌++◌, [], ◌∷◌, List, ℕ, Some, length, IsSome, IfOk, IfErr, MatchResult, OnOk, OnErr, IsErrOf};
 ghost use Rattle.std.specs.Option.{ForSome};
-ghost use Rattle.disk_core.specs.Disk.{written, Torn, IsSettled, Rose, HasCause};
-ghost use Rattle.journal_core.specs.File.{base_of, staged_record, HoldsAt};
+ghost use Rattle.disk_core.specs.Disk.{written, Same, Torn, IsSettled, Rose, HasCause};
+ghost use Rattle.journal_core.specs.File.{staged_record, listed, HoldsAt};
 ghost use Rattle.journal_core.specs.Stops.{Run, LeavesOnly};
 
+use crate::header::HEADER_LENGTH;
+use crate::open::{Found, read_file};
+use crate::{OpenFault, Records};
 use disk_core::{Disk, Failed};
-
-/// The bytes before an area.
-const HEADER_LENGTH: u64 = 32;
+use std::alloc::Global;
 
 /// Why a body was not added.
 #[derive(Clone, Copy, Debug, PartialEq, Eq)]
@@ -50,6 +51,48 @@ pub struct Journal<D: Disk> {
 
 impl<D: Disk> Journal<D> {
     ghost use Rattle.journal_core.specs.Journal.{disk_of, area_of, side_of, used_of, IsReady, HoldsEither};
+    ghost use Rattle.journal_core.specs.Open.{IsCauseOf};
+
+    /// Opens the journal in a file that a stop may have left. It reads the file once and writes nothing, and hands the
+    /// disk back where it refuses.
+    ///
+    /// It answers the bodies that the file holds, in order. `NotAStore`, `Version` and `Damaged` come exactly where the
+    /// file's bytes say so; `DiskFault` only where the disk failed in this call.
+    pub fn open(alloc: Global, disk: D) -> Result<(Journal<D>, Records), (D, OpenFault)>
+        ensures holds { IfOk result (λ opened. ForSome (D.content disk) (λ file. HoldsAt file (area_of opened.0) (side_of opened.0) opened.1)) }
+        ensures used { IfOk result (λ opened. ForSome (D.content disk) (λ _. used_of opened.0 ≡ length (listed opened.1))) }
+        ensures refused { IfErr result (λ refusal. ForSome (D.content disk) (λ file. IsCauseOf file refusal.1)) }
+        ensures disk_fault { IfErr result (λ refusal. refusal.1 ≡ OpenFault.DiskFault → Rose (D.faults disk) (D.faults refusal.0)) }
+        ensures count { MatchResult result (λ opened. D.faults disk ≤ D.faults (disk_of opened.0)) (λ refusal. D.faults disk ≤ D.faults refusal.0) }
+
+        // Over a settled disk the journal is ready.
+        ensures ready { IsSettled (D.content disk) (D.left_at disk (D.moment disk)) → IfOk result (λ opened. IsReady opened.0) }
+
+        // The file and its images stay as they were.
+        ensures kept { IfOk result (λ opened. D.content (disk_of opened.0) ≡ D.content disk) }
+        ensures kept_err { IfErr result (λ refusal. ForSome (D.content refusal.0) (λ file. D.content disk ≡ Some file)) }
+        ensures stop { IfOk result (λ opened. Run D.content D.moment D.left_at disk (disk_of opened.0) Same) }
+        ensures stop_err { IfErr result (λ refusal. Run D.content D.moment D.left_at disk refusal.0 Same) }
+    {
+        let mut disk = disk;
+        match read_file(alloc, &mut disk) {
+            Ok(found) => {
+                let Found {
+                    header,
+                    used,
+                    records,
+                } = found;
+                let journal = Journal {
+                    disk,
+                    area: header.area,
+                    side: header.side,
+                    used,
+                };
+                Ok((journal, records))
+            }
+            Err(fault) => Err((disk, fault)),
+        }
+    }
 
     /// Adds a body, and answers once it lasts. It takes no memory.
     pub fn commit(&mut self, body: &[u8]) -> Result<(), CommitFault>
