@@ -7,3 +7,4 @@ mod Commits
 mod Fields
 mod Headers
 mod Opens
+mod Founding

@@ -3,3 +3,4 @@ pub mod Stops
 pub mod Journal
 pub mod Area
 pub mod Open
+pub mod Init

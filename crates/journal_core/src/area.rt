@@ -8,10 +8,10 @@ use disk_core::Bytes;
 use std::alloc::{AllocError, Global};
 
 /// The version byte of an area.
-const VERSION: u8 = 1;
+pub(crate) const VERSION: u8 = 1;
 
 /// The gate of a record that counts.
-const OPEN: u8 = 1;
+pub(crate) const OPEN: u8 = 1;
 
 // Why an area holds no list.
 #[derive(Clone, Copy, Debug, PartialEq, Eq)]

@@ -5,6 +5,8 @@ ghost use Rattle.disk_core.specs.Disk.{written, Same, Torn, IsSettled, Rose, Has
 ghost use Rattle.journal_core.specs.File.{staged_record, listed, HoldsAt};
 ghost use Rattle.journal_core.specs.Stops.{Run, LeavesOnly};
 
+use crate::area::OPEN;
+use crate::create::put;
 use crate::header::HEADER_LENGTH;
 use crate::open::{Found, read_file};
 use crate::{OpenFault, Records};
@@ -131,7 +133,7 @@ impl<D: Disk> Journal<D> {
         let gate = HEADER_LENGTH + self.side as u64 * self.area + self.used;
         stage(&mut self.disk, gate + 1, body)?;
         // An open gate vouches for the record behind it and for the closed gate after that: both last by now.
-        open_gate(&mut self.disk, gate)?;
+        put(&mut self.disk, gate, &[OPEN])?;
         self.used += 9 + length;
         Ok(())
     }
@@ -180,17 +182,5 @@ fn stage<D: Disk>(disk: &mut D, place: u64, body: &[u8]) -> Result<(), Failed>
     disk.write_at(place, &length.to_be_bytes())?;
     disk.write_at(place + 8, body)?;
     disk.write_at(place + 8 + length, &[0])?;
-    disk.sync()
-}
-
-// Opens a gate, and makes that last.
-fn open_gate<D: Disk>(disk: &mut D, place: u64) -> Result<(), Failed>
-    requires { place < 2 ^ 61 }
-    ensures written { OnOk result (ForSome (D.content disk.old) (λ file. D.content disk.new ≡ Some (written place (1 ∷ []) file))) }
-    ensures settled { OnOk result (IsSettled (D.content disk.new) (D.left_at disk.new (D.moment disk.new))) }
-    ensures stop { Run D.content D.moment D.left_at disk.old disk.new (Torn place 1) }
-    ensures cause { HasCause (D.faults disk.old) (D.faults disk.new) result }
-{
-    disk.write_at(place, &[1])?;
     disk.sync()
 }

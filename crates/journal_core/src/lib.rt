@@ -2,11 +2,13 @@
 #![tactic(auto)]
 
 mod area;
+mod create;
 mod header;
 mod journal;
 mod open;
 mod records;
 
+pub use create::{InitFault, init};
 pub use journal::{CommitFault, Journal, Room};
 pub use open::OpenFault;
 pub use records::Records;

@@ -24,19 +24,19 @@ returns-in_err-stage-clause-any_moment g c = λ last now file is bodies holds.
     let used : used_of was ≡ length (listed bodies) = agrees.used ∙ ap (λ (b : List (List ℕ)). length (listed b)) (holds_same file (area_of was) (side_of was) agrees.bodies bodies agrees.holds holds) in
     staging d.content d.moment d.left_at file (area_of was) (side_of was) (used_of was) bodies c.args.body.now holds used (disk_of was) c.stage.new.disk is c.requires.ready.settled (c.stage.ensures.stop last now).1
 
-pub returns-in_err-open_gate-clause-any_moment : goal.returns-in_err-open_gate-clause-any_moment
-returns-in_err-open_gate-clause-any_moment g c = λ last now file is bodies holds.
+pub returns-in_err-put-clause-any_moment : goal.returns-in_err-put-clause-any_moment
+returns-in_err-put-clause-any_moment g c = λ last now file is bodies holds.
     let d = g.D.Disk in
     let was = c.args.self.now in
     let body = c.args.body.now in
     let agrees = c.requires.ready.agrees file is in
     let used : used_of was ≡ length (listed bodies) = agrees.used ∙ ap (λ (b : List (List ℕ)). length (listed b)) (holds_same file (area_of was) (side_of was) agrees.bodies bodies agrees.holds holds) in
-    let later = c.open_gate.ensures.stop last now in
+    let later = c.put.ensures.stop last now in
     let mid = told (d.content c.stage.new.disk) later.0 in
     let first = staging d.content d.moment d.left_at file (area_of was) (side_of was) (used_of was) bodies body holds used (disk_of was) c.stage.new.disk is c.requires.ready.settled (c.stage.ensures.stop mid.0 mid.1).1 in
     let there = c.in_ok-stage.ensures.written file is ∙ ap Some (staged_file d.content d.moment d.left_at file (area_of was) (side_of was) (used_of was) bodies body holds used) in
-    let second = opening d.content d.moment d.left_at file (area_of was) (side_of was) (used_of was) bodies body holds used c.stage.new.disk c.open_gate.new.disk (omega arith) there c.in_ok-stage.ensures.settled later.1 in
-    leaves_on d.content d.moment d.left_at (disk_of was) c.stage.new.disk c.open_gate.new.disk (HoldsEither (area_of was) (side_of was) bodies body) first second
+    let second = opening d.content d.moment d.left_at file (area_of was) (side_of was) (used_of was) bodies body holds used c.stage.new.disk c.put.new.disk (omega arith) there c.in_ok-stage.ensures.settled later.1 in
+    leaves_on d.content d.moment d.left_at (disk_of was) c.stage.new.disk c.put.new.disk (HoldsEither (area_of was) (side_of was) bodies body) first second
 
 pub returns-clause-any_moment : goal.returns-clause-any_moment
 returns-clause-any_moment g c = λ last now file is bodies holds.
@@ -45,12 +45,12 @@ returns-clause-any_moment g c = λ last now file is bodies holds.
     let body = c.args.body.now in
     let agrees = c.requires.ready.agrees file is in
     let used : used_of was ≡ length (listed bodies) = agrees.used ∙ ap (λ (b : List (List ℕ)). length (listed b)) (holds_same file (area_of was) (side_of was) agrees.bodies bodies agrees.holds holds) in
-    let later = c.open_gate.ensures.stop last now in
+    let later = c.put.ensures.stop last now in
     let mid = told (d.content c.stage.new.disk) later.0 in
     let first = staging d.content d.moment d.left_at file (area_of was) (side_of was) (used_of was) bodies body holds used (disk_of was) c.stage.new.disk is c.requires.ready.settled (c.stage.ensures.stop mid.0 mid.1).1 in
     let there = c.in_ok-stage.ensures.written file is ∙ ap Some (staged_file d.content d.moment d.left_at file (area_of was) (side_of was) (used_of was) bodies body holds used) in
-    let second = opening d.content d.moment d.left_at file (area_of was) (side_of was) (used_of was) bodies body holds used c.stage.new.disk c.open_gate.new.disk (omega arith) there c.in_ok-stage.ensures.settled later.1 in
-    leaves_on d.content d.moment d.left_at (disk_of was) c.stage.new.disk c.open_gate.new.disk (HoldsEither (area_of was) (side_of was) bodies body) first second
+    let second = opening d.content d.moment d.left_at file (area_of was) (side_of was) (used_of was) bodies body holds used c.stage.new.disk c.put.new.disk (omega arith) there c.in_ok-stage.ensures.settled later.1 in
+    leaves_on d.content d.moment d.left_at (disk_of was) c.stage.new.disk c.put.new.disk (HoldsEither (area_of was) (side_of was) bodies body) first second
 
 pub returns-clause-added : goal.returns-clause-added
 returns-clause-added g c = λ file is bodies holds last now.
@@ -60,8 +60,8 @@ returns-clause-added g c = λ file is bodies holds last now.
     let agrees = c.requires.ready.agrees file is in
     let used : used_of was ≡ length (listed bodies) = agrees.used ∙ ap (λ (b : List (List ℕ)). length (listed b)) (holds_same file (area_of was) (side_of was) agrees.bodies bodies agrees.holds holds) in
     let there = c.in_ok-stage.ensures.written file is ∙ ap Some (staged_file d.content d.moment d.left_at file (area_of was) (side_of was) (used_of was) bodies body holds used) in
-    let done = c.in_ok-open_gate.ensures.written _ there in
-    let same = some_same (d.content c.open_gate.new.disk) _ last done now in
+    let done = c.in_ok-put.ensures.written _ there in
+    let same = some_same (d.content c.put.new.disk) _ last done now in
     subst (λ (f : List ℕ). HoldsAt f (area_of was) (side_of was) (bodies ++ body ∷ [])) same
     (opened_file d.content d.moment d.left_at file (area_of was) (side_of was) (used_of was) bodies body holds used (omega arith))
 
@@ -72,7 +72,7 @@ returns-clause-ready g c =
     let body = c.args.body.now in
     record {
       agrees = λ last now.
-          let mid = told (d.content c.stage.new.disk) (c.open_gate.ensures.stop last now).0 in
+          let mid = told (d.content c.stage.new.disk) (c.put.ensures.stop last now).0 in
           let first = told (d.content (disk_of was)) (c.stage.ensures.stop mid.0 mid.1).0 in
           let agrees = c.requires.ready.agrees first.0 first.1 in
           record {
@@ -80,5 +80,5 @@ returns-clause-ready g c =
             holds = returns-clause-added g c first.0 first.1 agrees.bodies agrees.holds last now;
             used = omega (arith, agrees.used, length-listed-push agrees.bodies body);
           };
-      settled = c.in_ok-open_gate.ensures.settled;
+      settled = c.in_ok-put.ensures.settled;
     }
