@@ -19,3 +19,7 @@ module _ {D : Type 0} (moment : D → ℕ) (left_at : D → ℕ → List ℕ →
 -- where the disk tells at the end, it told at the beginning, and its images went on so
 abbrev pub Run : {D : Type 0} → (D → Option (List ℕ)) → (D → ℕ) → (D → ℕ → List ℕ → Type 0) → D → D → (List ℕ → List ℕ → Type 0) → Type 0
 Run content moment left_at old new Makes = ForSome (content new) (λ _. IsSome (content old) × Spans moment left_at old new Makes)
+
+-- what a stop from that moment on leaves has P
+abbrev pub LeavesSince : {D : Type 0} → (D → ℕ) → (D → ℕ → List ℕ → Type 0) → D → ℕ → (List ℕ → Type 0) → Type 0
+LeavesSince moment left_at disk since P = (time : ℕ) (image : List ℕ) → since ≤ time → time ≤ moment disk → left_at disk time image → P image

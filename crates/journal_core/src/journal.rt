@@ -3,13 +3,13 @@ ghost use Rattle.std.specs.Prelude.{◌≡◌, ◌⊎◌, ◌*◌, ◌+◌, ◌^
 ghost use Rattle.std.specs.Option.{ForSome};
 ghost use Rattle.disk_core.specs.Disk.{written, Same, Torn, IsSettled, Rose, HasCause};
 ghost use Rattle.journal_core.specs.File.{staged_record, listed, HoldsAt};
-ghost use Rattle.journal_core.specs.Stops.{Run, LeavesOnly};
+ghost use Rattle.journal_core.specs.Stops.{Run, LeavesOnly, LeavesSince};
 
 use crate::area::OPEN;
 use crate::create::put;
 use crate::header::HEADER_LENGTH;
 use crate::open::{Found, read_file};
-use crate::{OpenFault, Records};
+use crate::{Moment, OpenFault, Records};
 use disk_core::{Disk, Failed};
 use std::alloc::Global;
 
@@ -97,7 +97,7 @@ impl<D: Disk> Journal<D> {
     }
 
     /// Adds a body, and answers once it lasts. It takes no memory.
-    pub fn commit(&mut self, body: &[u8]) -> Result<(), CommitFault>
+    pub fn commit(&mut self, body: &[u8]) -> Result<Moment, CommitFault>
         requires ready { IsReady self.old }
 
         // Full exactly where the record and the next gate don't fit, and then nothing was written.
@@ -119,6 +119,11 @@ impl<D: Disk> Journal<D> {
         ensures ready { OnOk result (IsReady self.new) }
         ensures added { OnOk result (ForSome (D.content (disk_of self.old)) (λ file. (bodies : List (List ℕ)) → HoldsAt file (area_of self.old) (side_of self.old) bodies
             → ForSome (D.content (disk_of self.new)) (λ later. HoldsAt later (area_of self.old) (side_of self.old) (bodies ++ body.now ∷ [])))) }
+        ensures moment { IfOk result (λ moment. moment.number ≡ D.moment (disk_of self.new)) }
+        ensures lasts { IfOk result (λ moment. ForSome (D.content (disk_of self.new)) (λ _. ForSome (D.content (disk_of self.old)) (λ file.
+            (bodies : List (List ℕ)) → HoldsAt file (area_of self.old) (side_of self.old) bodies
+            → LeavesSince D.moment D.left_at (disk_of self.new) moment.number
+            (λ image. HoldsAt image (area_of self.old) (side_of self.old) (bodies ++ body.now ∷ []))))) }
         ensures used { OnOk result (used_of self.new ≡ used_of self.old + (9 + length body.now)) }
         ensures area { area_of self.new ≡ area_of self.old }
         ensures side { side_of self.new ≡ side_of self.old }
@@ -135,7 +140,7 @@ impl<D: Disk> Journal<D> {
         // An open gate vouches for the record behind it and for the closed gate after that: both last by now.
         put(&mut self.disk, gate, &[OPEN])?;
         self.used += 9 + length;
-        Ok(())
+        Ok(Moment::of(&self.disk))
     }
 
     /// How much of the area is used.

@@ -1,4 +1,4 @@
-use Rattle.std.proofs.Common.{◌≡◌, ℕ, ◌+◌, ◌*◌, ◌≤◌, List, [], ◌∷◌, ◌++◌, length, Some, ◌∙◌, ap, subst, arith}
+use Rattle.std.proofs.Common.{◌≡◌, ℕ, ◌+◌, ◌*◌, ◌≤◌, List, [], ◌∷◌, ◌++◌, length, Some, ◌∙◌, ap, subst, sym, arith}
 use Rattle.disk_core.specs.Disk.{written, Torn}
 use Rattle.journal_core.specs.File.{listed, HoldsAt}
 use Rattle.journal_core.specs.Journal.{area_of, side_of, used_of, disk_of, HoldsEither}
@@ -82,3 +82,11 @@ returns-clause-ready g c =
           };
       settled = c.in_ok-put.ensures.settled;
     }
+
+pub returns-clause-lasts : goal.returns-clause-lasts
+returns-clause-lasts g c = λ last now file is bodies holds time image since to left.
+    let d = g.D.Disk in
+    let at : time ≡ d.moment c.put.new.disk = omega (arith, c.of.ensures, since, to) in
+    let here = subst (λ (t : ℕ). d.left_at c.put.new.disk t image) at left in
+    subst (λ (f : List ℕ). HoldsAt f (area_of c.args.self.now) (side_of c.args.self.now) (bodies ++ c.args.body.now ∷ [])) (sym (c.in_ok-put.ensures.settled last now image here))
+    (returns-clause-added g c file is bodies holds last now)
