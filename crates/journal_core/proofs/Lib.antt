@@ -8,3 +8,4 @@ mod Fields
 mod Headers
 mod Opens
 mod Founding
+mod LawLemmas

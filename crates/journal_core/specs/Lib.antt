@@ -4,3 +4,4 @@ pub mod Journal
 pub mod Area
 pub mod Open
 pub mod Init
+pub mod OneMeaning
