@@ -1,2 +1,3 @@
 mod PastLemmas
 mod Lists
+mod TornLemmas

@@ -1,6 +1,7 @@
 -- What a disk in memory shows.
 use Rattle.std.specs.Prelude.{ℕ, ◌+◌, List, length, Option, Some, None, if◌then◌else◌, ◌==◌}
 use Rattle.disk_core.specs.Past.{IsLeftAt}
+use Rattle.disk_core.specs.declared.record.Noted.{Noted}
 use Rattle.disk_core.specs.declared.memory.MemoryDisk.{MemoryDisk}
 
 -- the file, as long as its record found memory at every call
@@ -18,3 +19,7 @@ left_by disk moment image = IsLeftAt disk.start.items disk.log.calls.items momen
 -- the calls that were listed, and those that found no memory
 abbrev pub faults_of : MemoryDisk → ℕ
 faults_of disk = disk.log.failed + disk.starved
+
+-- the record, the oldest call first
+abbrev pub calls_of : MemoryDisk → List Noted
+calls_of disk = disk.log.calls.items

@@ -13,6 +13,7 @@ mod disk;
 mod fused;
 mod memory;
 mod record;
+mod torn;
 
 pub use bytes::{Bytes, Images};
 pub use disk::{Disk, Failed};

@@ -4,7 +4,8 @@ ghost use Rattle.disk_core.specs.Disk.{written, Same, Passes, IsSettled, HasCaus
 ghost use Rattle.disk_core.specs.Past.{file_after};
 
 use crate::record::Log;
-use crate::{Disk, DiskCall, Failed, Failing};
+use crate::torn::images_after;
+use crate::{Bytes, Disk, DiskCall, Failed, Failing, Images, Noted};
 use std::alloc::{AllocError, Global};
 
 /// A disk in memory. It tells its content as long as it found memory for its record at every call.
@@ -23,7 +24,8 @@ pub struct MemoryDisk {
 
 impl MemoryDisk {
     ghost use Rattle.std.specs.Option.{ForSome};
-    ghost use Rattle.disk_core.specs.Memory.{content_of, clock_of, left_by, faults_of};
+    ghost use Rattle.disk_core.specs.Memory.{content_of, clock_of, left_by, faults_of, calls_of};
+    ghost use Rattle.std.specs.List.{All};
 
     /// A disk with this file, all of it lasting, that fails the listed calls.
     pub fn new(
@@ -51,6 +53,36 @@ impl MemoryDisk {
         })
     }
 
+    /// The file as a read gives it.
+    pub fn file(&self) -> &[u8]
+        ensures { ForSome (content_of self.now) (λ file. result.now ≡ file) }
+    {
+        &self.file
+    }
+
+    /// The record of the calls so far, the oldest first.
+    pub fn calls(&self) -> &[Noted]
+        ensures { result.now ≡ calls_of self.now }
+    {
+        &self.log.calls
+    }
+
+    /// Some of the images that a stop may leave now, among them the file as it reads. A byte that was written since the
+    /// last sync is 0, 1, 2, 255 or what was written; a longer piece is missing, half written, whole, or all 255. So each
+    /// write since then multiplies them by four or five.
+    pub fn images(&self) -> Result<Images, AllocError>
+        ensures { IfOk result (λ images. All (left_by self.now (clock_of self.now)) images) }
+    {
+        let alloc = self.log.alloc;
+        let mut file = self.start.to_vec(alloc)?;
+        let mut images = Images::empty(alloc);
+        images.push(Bytes::of(alloc, &file)?)?;
+        'calls: for noted in &self.log.calls {
+            images = images_after(alloc, &images, &mut file, noted)?;
+        }
+        Ok(images)
+    }
+
     // A call that doesn't change the file.
     fn pass(&mut self, call: DiskCall, place: u64) -> Result<(), Failed>
         requires { call ≢ DiskCall.WriteAt }
@@ -73,15 +105,18 @@ impl MemoryDisk {
     }
 }
 
-// Puts a piece into a file. What lies between its old end and the place is filled with zeros.
-fn overwrite(file: &mut Vec<u8>, place: usize, piece: &[u8]) -> Result<(), AllocError>
-    requires { place + length piece.now < 2 ^ 62 }
+// Puts a piece into a file. What lies between its old end and the place is filled with zeros. No file that ends past the
+// last place of a `u64` finds memory.
+pub(crate) fn overwrite(file: &mut Vec<u8>, place: u64, piece: &[u8]) -> Result<(), AllocError>
     ensures written { OnOk result (file.new.items ≡ written place piece.now file.old.items) }
     ensures unchanged { OnErr result (file.new.items ≡ file.old.items) }
 {
-    let size = file.len().max(place + piece.len());
+    let Some(end) = place.checked_add(piece.len() as u64) else {
+        return Err(AllocError);
+    };
+    let size = file.len().max(end as usize);
     file.resize(size, 0)?;
-    put(file, place, piece);
+    put(file, place as usize, piece);
     Ok(())
 }
 
@@ -136,7 +171,7 @@ impl Disk for MemoryDisk {
                 return Err(Failed);
             }
         }
-        if overwrite(&mut self.file, place as usize, piece).is_err() {
+        if overwrite(&mut self.file, place, piece).is_err() {
             self.starved = self.starved.saturating_add(1);
             return Err(Failed);
         }

@@ -1,0 +1,11 @@
+mod Lists
+mod Parts
+mod Runs
+mod Unique
+mod Meanings
+mod Commits
+mod Fields
+mod Headers
+mod Opens
+mod Founding
+mod LawLemmas

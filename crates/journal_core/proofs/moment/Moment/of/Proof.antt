@@ -1,0 +1,42 @@
+-- `of` makes a value of no bytes, whose number is the clock of the disk that it is lent.
+use Rattle.std.proofs.Common.{[], ◌∷◌, refl}
+use Rattle.std.proofs.raw_atomic.Walks.{proved}
+use mir.Syntax.{a_type, dcons, dnil, named}
+use mir.MapTy.{inst_fn}
+use mir.Val.{Val, vptr, vstruct, vnil}
+use base.Logic.{SProp}
+use types.Kit.{‵, raw, ◌⊛◌, ◌$◌, ◌∵◌, !, qed, move, keep, split, suffices, done}
+use types.Part.{agg}
+use types.Run.{enter, returns, no_more}
+use types.ByLocal.{alloc_all, pass_all, free_all, look_at, sets}
+use contract.Running.{tables}
+use denote.Exit.{yes}
+use denote.Param.{param, bounded}
+use denote.RattleType.{RattleType, owns}
+use denote.Ref.{shr_vals, shr_Tells}
+use denote.Shadow.{pure_i}
+use denote.Signature.{plain, types_at}
+use denote.Triple.Entry.{alive}
+use denote.Triple.Walked.{says, Stays, stay_none_ref, walk_of, ends_at, Goes-none_ref}
+use Rattle.journal_core.specs.contracts.moment.Moment as moment
+use Rattle.journal_core.specs.contracts.moment.Moment.of.{ended, clauses}
+use Rattle.journal_core.specs.contracts.moment.Moment.of.Key.{name as #self}
+use Rattle.journal_core.proofs.moment.Moment.of.Statement.{statement}
+use Rattle.journal_core.proofs.moment.Moment.of.Code as code
+
+pub of_spec : {M : Type 1} → statement M
+of_spec 𝓤 𝓛 𝓜 𝓡 wired D laws g d _ =
+    let H = 𝓛.H in let 𝓣 = tables 𝓤 H 𝓜 𝓡 𝓡.env in let R : RattleType = param 0 D in let En = ended D g d in
+    let inst = bounded (a_type ∷ []) (D, tt) (dcons d dnil) in let fn = inst_fn inst code.function in let c = clauses D g d 𝓛 𝓜.mem 𝓡.returns in
+    let hs : Stays En.signature.params En.kept = (stay_none_ref (0 ∷ []) tt (plain (λ _. R)) yes, tt) in
+    proved 𝓛 En hs c 𝓜 𝓡 (Goes-none_ref 𝓛 2 (0 ∷ []) tt (plain (λ _. R)) yes, tt) (#self inst) fn (code.unfolded 𝓤 H 𝓜 𝓡 wired (D, tt) d)
+    (λ κs. (shr_vals, tt)) (λ κs. (shr_Tells (named 0) κs.0 R, tt)) (λ κs qs bounds a gh are.
+    let p : Val = vptr a.0.ref_ptr.0 a.0.ref_ptr.1 in let r : moment.the_row.Denot = record { number = g.moment a.0.now } in
+    let y : (walk_of 𝓛 En hs c).Ghost = ((κs, qs, bounds, a, (p ∷ [], tt)), gh) in let Post : Val → SProp 𝓤 = (walk_of 𝓛 En hs c).post y in
+    qed 𝓛 ((raw (alive 𝓛 En.signature κs qs) ⊛ ‵ (owns (types_at En.signature.params κs) a y.0.4)) ∷ raw ((c κs a).requires gh) ∷ []) ∵ keep ! (0 ∷ []) $ split ! $
+    enter ! 𝓣.C 𝓣.Λ fn (p ∷ []) Post $ alloc_all ! (λ l. pass_all ! refl ((tt, tt), tt) $
+    sets ! (agg ! (no_more !)) refl (tt, tt) $
+    returns ! (look_at ! 0 refl) $ free_all ! refl $
+    suffices ! _ (ends_at 𝓛 En hs c y (vstruct vnil) r (tt, tt) (tt, tt)) $
+    says ! refl $ pure_i ! (moment.the_row.own_val r (vstruct vnil ∷ [])) ((λ vss. (tt, tt)), tt) ((tt, (refl, tt)), tt) $
+    move ! (1 ∷ 2 ∷ 0 ∷ []) $ done !))

@@ -1,0 +1,30 @@
+//! A moment of a disk's clock, for contracts alone.
+ghost use Rattle.std.specs.Prelude.{◌≡◌, ℕ};
+ghost use Rattle.std.specs.Borrow.{ftrue};
+
+use disk_core::Disk;
+use std::marker::Model;
+
+/// A number of the disk's clock, which contracts see as `number`. It has no bytes.
+#[derive(Drop)]
+pub struct Moment {
+    pub ghost number: { ℕ },
+}
+
+impl Model for Moment {
+    ghost also_owns = { λ _. ftrue };
+}
+
+// A struct with `also_owns` has neither by itself. This one owns nothing.
+unsafe impl Send for Moment {}
+
+unsafe impl Sync for Moment {}
+
+impl Moment {
+    // The disk's clock now.
+    pub(crate) fn of<D: Disk>(_disk: &D) -> Moment
+        ensures { result.number ≡ D.moment _disk.now }
+    {
+        Moment {}
+    }
+}

@@ -1,0 +1,158 @@
+//! Opening a journal: its file is read once, and nothing is written.
+ghost use Rattle.std.specs.Prelude.{◌≡◌, ◌⊎◌, ◌+◌, ◌^◌, ◌<◌, ◌≤◌, ℕ, List, Some, length, take, drop, IfOk, IfSome, IfErr, OnOk, OnErr, IsErrOf, MatchOption};
+ghost use Rattle.std.specs.Option.{ForSome};
+ghost use Rattle.disk_core.specs.Disk.{Same, Rose, HasCause};
+ghost use Rattle.journal_core.specs.File.{HasHeader};
+ghost use Rattle.journal_core.specs.Open.{Answers, IsInBounds, IsPlaced, refusal_of};
+ghost use Rattle.journal_core.specs.Stops.{Run};
+
+use crate::Records;
+use crate::area::{AreaFault, read_area};
+use crate::header::{HEADER_LENGTH, Header, header_of};
+use disk_core::{Disk, Failed};
+use std::alloc::{AllocError, Global};
+
+/// Why a file was not opened.
+#[derive(Clone, Copy, Debug, PartialEq, Eq)]
+pub enum OpenFault {
+    /// No header stands at its front, or it ends before the version byte.
+    NotAStore,
+    /// The version byte is another one.
+    Version { byte: u8 },
+    /// At this place of the file a gate is missing, or it is open and no whole record stands behind it.
+    Damaged { place: u64 },
+    /// The disk failed.
+    DiskFault,
+    /// There was no memory for the records.
+    Memory,
+}
+
+impl From<Failed> for OpenFault {
+    ghost use Rattle.journal_core.specs.declared.open.OpenFault.TheVariants.{DiskFault};
+
+    ghost from_gives = { λ _ fault. fault ≡ DiskFault };
+
+    fn from(_: Failed) -> OpenFault {
+        OpenFault::DiskFault
+    }
+}
+
+impl From<AllocError> for OpenFault {
+    ghost use Rattle.journal_core.specs.declared.open.OpenFault.TheVariants.{Memory};
+
+    ghost from_gives = { λ _ fault. fault ≡ Memory };
+
+    fn from(_: AllocError) -> OpenFault {
+        OpenFault::Memory
+    }
+}
+
+// What a file holds, and where.
+pub(crate) struct Found {
+    pub(crate) header: Header,
+    pub(crate) used: u64,
+    pub(crate) records: Records,
+}
+
+// Reads a file from its header to the closed gate.
+pub(crate) fn read_file<D: Disk>(alloc: Global, disk: &mut D) -> Result<Found, OpenFault>
+    ensures meaning { ForSome (D.content disk.old) (λ file. Answers file result) }
+    ensures bounds { IfOk result IsInBounds }
+    ensures same { OnOk result (D.content disk.new ≡ D.content disk.old) }
+    ensures told { ForSome (D.content disk.new) (λ file. D.content disk.old ≡ Some file) }
+    ensures stop { Run D.content D.moment D.left_at disk.old disk.new Same }
+    ensures count { D.faults disk.old ≤ D.faults disk.new }
+    ensures fault { IsErrOf result OpenFault.DiskFault → Rose (D.faults disk.old) (D.faults disk.new) }
+{
+    let length = disk.length()?;
+    let Some(header) = read_header(disk)? else {
+        return Err(OpenFault::NotAStore);
+    };
+    let base = HEADER_LENGTH + header.side as u64 * header.area;
+    let size = length.saturating_sub(base).min(header.area);
+    let inside = read_inside(alloc, disk, base, size as usize)?;
+    match read_area(alloc, &inside) {
+        Ok((records, used)) => Ok(Found {
+            header,
+            used: used as u64,
+            records,
+        }),
+        Err(fault) => Err(refusal(fault, base)),
+    }
+}
+
+// Reads what the file has of so many bytes from `base` on.
+fn read_inside<D: Disk>(
+    alloc: Global,
+    disk: &mut D,
+    base: u64,
+    size: usize,
+) -> Result<Vec<u8>, OpenFault>
+    requires { base + size < 2 ^ 63 }
+    ensures bound { IfOk result (λ inside. length inside.items ≤ size) }
+    ensures bytes { IfOk result (λ inside. ForSome (D.content disk.old) (λ file. inside.items ≡ take size (drop base file))) }
+    ensures same { OnOk result (D.content disk.new ≡ D.content disk.old) }
+    ensures told { ForSome (D.content disk.new) (λ file. D.content disk.old ≡ Some file) }
+    ensures stop { Run D.content D.moment D.left_at disk.old disk.new Same }
+    ensures count { D.faults disk.old ≤ D.faults disk.new }
+    ensures causes { IfErr result (λ fault. (fault ≡ OpenFault.Memory) ⊎ ((fault ≡ OpenFault.DiskFault) × Rose (D.faults disk.old) (D.faults disk.new))) }
+{
+    let mut inside = vec![in alloc; 0; size]?;
+    let count = fill(disk, base, &mut inside)?;
+    inside.truncate(count);
+    Ok(inside)
+}
+
+// The refusal of a file whose area begins at `base`.
+fn refusal(fault: AreaFault, base: u64) -> OpenFault
+    requires { IsPlaced fault base }
+    ensures { result ≡ refusal_of fault base }
+{
+    match fault {
+        AreaFault::Empty => OpenFault::NotAStore,
+        AreaFault::Version { byte } => OpenFault::Version { byte },
+        AreaFault::Broken { place } => OpenFault::Damaged {
+            place: base + place as u64,
+        },
+        AreaFault::Memory => OpenFault::Memory,
+    }
+}
+
+// Reads the header, if the file begins with one.
+fn read_header<D: Disk>(disk: &mut D) -> Result<Option<Header>, Failed>
+    ensures bounds { IfOk result (λ found. IfSome found (λ header. (header.side < 2) × (header.area ≤ 268435456))) }
+    ensures found { IfOk result (λ found. ForSome (D.content disk.old) (λ file. MatchOption found
+        ((area side : ℕ) → HasHeader file area side → ⊥)
+        (λ header. HasHeader file header.area header.side))) }
+    ensures same { OnOk result (D.content disk.new ≡ D.content disk.old) }
+    ensures told { ForSome (D.content disk.new) (λ file. D.content disk.old ≡ Some file) }
+    ensures stop { Run D.content D.moment D.left_at disk.old disk.new Same }
+    ensures cause { HasCause (D.faults disk.old) (D.faults disk.new) result }
+{
+    let mut front = [0; 32];
+    if fill(disk, 0, &mut front)? < 32 {
+        return Ok(None);
+    }
+    Ok(header_of(&front))
+}
+
+// Reads from `place` on until `into` is full or the file ends, and answers how many bytes came.
+pub(crate) fn fill<D: Disk>(disk: &mut D, place: u64, into: &mut [u8]) -> Result<usize, Failed>
+    requires { place + length into.old < 2 ^ 63 }
+    ensures bound { IfOk result (λ n. n ≤ length into.new) }
+    ensures bytes { IfOk result (λ n. ForSome (D.content disk.old) (λ file. take n into.new ≡ take (length into.new) (drop place file))) }
+    ensures same { OnOk result (D.content disk.new ≡ D.content disk.old) }
+    ensures told { ForSome (D.content disk.new) (λ file. D.content disk.old ≡ Some file) }
+    ensures stop { Run D.content D.moment D.left_at disk.old disk.new Same }
+    ensures cause { HasCause (D.faults disk.old) (D.faults disk.new) result }
+{
+    let mut filled = 0;
+    'reads: while filled < into.len() {
+        let count = disk.read_at(place + filled as u64, &mut into[filled..])?;
+        if count == 0 {
+            break;
+        }
+        filled += count;
+    }
+    Ok(filled)
+}
