@@ -1,5 +1,5 @@
 //! Standard input and output as one link.
-ghost use Rattle.std.specs.Prelude.{◌≤◌, ◌^◌, None};
+ghost use Rattle.std.specs.Prelude.{◌≡◌, ◌≤◌, ◌+◌, ◌-◌, ◌^◌, min, None, false};
 
 use link_core::{Failed, Link};
 use std::io::{Read, Stdin, Stdout, Write};
@@ -20,7 +20,10 @@ pub struct ConsoleLink {
 
 impl ConsoleLink {
     /// The console, before the first read and write.
-    pub fn new(stdin: Stdin, stdout: Stdout) -> ConsoleLink {
+    pub fn new(stdin: Stdin, stdout: Stdout) -> ConsoleLink
+        ensures unfailed { result.faults ≡ 0 }
+        ensures open_still { result.closed ≡ false }
+    {
         ConsoleLink {
             stdin,
             stdout,
@@ -29,12 +32,14 @@ impl ConsoleLink {
             faults: 0,
         }
     }
+}
 
-    // A call that failed.
-    fn fail(&mut self) -> Result<usize, Failed> {
-        self.faults = self.faults.saturating_add(1);
-        Err(Failed)
-    }
+// One fault more.
+fn count_fault(faults: &mut u64)
+    ensures counted { faults.new ≡ min (faults.old + 1) (2 ^ 64 - 1) }
+    ensures later { faults.old ≤ faults.new }
+{
+    *faults = faults.saturating_add(1);
 }
 
 impl Link for ConsoleLink {
@@ -52,7 +57,8 @@ impl Link for ConsoleLink {
 
     fn read(&mut self, into: &mut [u8]) -> Result<usize, Failed> {
         if self.reads == 0 {
-            return self.fail();
+            count_fault(&mut self.faults);
+            return Err(Failed);
         }
         match self.stdin.read(into) {
             Ok(0) => Ok(0),
@@ -60,15 +66,26 @@ impl Link for ConsoleLink {
                 self.reads -= 1;
                 Ok(count)
             }
-            Err(_) => self.fail(),
+            Err(_) => {
+                count_fault(&mut self.faults);
+                Err(Failed)
+            }
         }
     }
 
     fn write(&mut self, piece: &[u8]) -> Result<usize, Failed> {
         match self.stdout.write(piece) {
-            Ok(0) if !piece.is_empty() => self.fail(),
-            Ok(count) => Ok(count),
-            Err(_) => self.fail(),
+            Ok(count) => {
+                if count == 0 && !piece.is_empty() {
+                    count_fault(&mut self.faults);
+                    return Err(Failed);
+                }
+                Ok(count)
+            }
+            Err(_) => {
+                count_fault(&mut self.faults);
+                Err(Failed)
+            }
         }
     }
 

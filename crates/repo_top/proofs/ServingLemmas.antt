@@ -67,21 +67,21 @@ spelt_next limits outer fed rest segments same h =
     subst (λ (l : Limits). Spelt l fed segments) same (subst (λ (w : List ℕ). Spelt limits w segments) (take-append_seam fed rest) h)
 
 -- a message is answered, whatever was written of its reply
-pub serves_on : (config : Config) (h0 h2 : List ℕ) (T0 T1 T2 T3 L0 L1 L2 L3 W0 W1 W2 W3 : Option (List ℕ)) (d0 d1 d2 d3 : Decoding) (outcome : Outcome) →
-    HasServed config h0 T0 T1 L0 L1 W0 W1 d0 d1 → Flows steps.Message h0 h2 T1 T2 L1 L2 d1 d2 → Keeps W1 W2 → Keeps T2 T3 → Keeps L2 L3
-    → Appends W2 W3 (reply_text (reply_with outcome (step config d2.reading.segments))) → d3.limits ≡ d2.limits → Took d3 [] → d3.taken ≡ d2.taken
-    → HasServed config h2 T0 T3 L0 L3 W0 W3 d0 d3
-serves_on config h0 h2 T0 T1 T2 T3 L0 L1 L2 L3 W0 W1 W2 W3 d0 d1 d2 d3 outcome served flow kept ktaken kleft said limits took place =
+pub serves_on : (config : Config) (h0 h2 : List ℕ) (t0 t1 t2 t3 l0 l1 l2 l3 w0 w1 w2 w3 : Option (List ℕ)) (d0 d1 d2 d3 : Decoding) (outcome : Outcome) →
+    HasServed config h0 t0 t1 l0 l1 w0 w1 d0 d1 → Flows steps.Message h0 h2 t1 t2 l1 l2 d1 d2 → Keeps w1 w2 → Keeps t2 t3 → Keeps l2 l3
+    → Appends w2 w3 (reply_text (reply_with outcome (step config d2.reading.segments))) → d3.limits ≡ d2.limits → Took d3 [] → d3.taken ≡ d2.taken
+    → HasServed config h2 t0 t3 l0 l3 w0 w3 d0 d3
+serves_on config h0 h2 t0 t1 t2 t3 l0 l1 l2 l3 w0 w1 w2 w3 d0 d1 d2 d3 outcome served flow kept ktaken kleft said limits took place =
     let e : Entry = entry_for outcome d2.reading.segments in
     let bytes : (served.front ++ h0) ++ flow.gave ≡ (served.front ++ flow.fed) ++ h2 = along served.front h0 flow.gave flow.fed h2 flow.split in
     record {
       entries = served.entries ++ e ∷ [];
       front = served.front ++ flow.fed;
       own = own_more served.entries outcome d2.reading.segments served.own;
-      taken = subst (λ (w : List ℕ). Appends T0 T3 w) bytes (Appends-kept T0 T2 T3 _ (Appends-trans T0 T1 T2 (served.front ++ h0) flow.gave served.taken flow.taken) ktaken);
-      left = subst (λ (w : List ℕ). Consumes L0 L3 w) bytes (Consumes-kept L0 L2 L3 _ (Consumes-trans L0 L1 L2 (served.front ++ h0) flow.gave served.left flow.left) kleft);
-      written = subst (λ (w : List ℕ). Appends W0 W3 w) (sym (texts_more config served.entries e))
-          (Appends-trans W0 W2 W3 (replies_text config served.entries) (entry_text config e) (Appends-kept W0 W1 W2 _ served.written kept) said);
+      taken = subst (λ (w : List ℕ). Appends t0 t3 w) bytes (Appends-kept t0 t2 t3 _ (Appends-trans t0 t1 t2 (served.front ++ h0) flow.gave served.taken flow.taken) ktaken);
+      left = subst (λ (w : List ℕ). Consumes l0 l3 w) bytes (Consumes-kept l0 l2 l3 _ (Consumes-trans l0 l1 l2 (served.front ++ h0) flow.gave served.left flow.left) kleft);
+      written = subst (λ (w : List ℕ). Appends w0 w3 w) (sym (texts_more config served.entries e))
+          (Appends-trans w0 w2 w3 (replies_text config served.entries) (entry_text config e) (Appends-kept w0 w1 w2 _ served.written kept) said);
       spells = subst (λ (ms : List (List Segment)). Spells d0.limits (served.front ++ flow.fed) ms) (sym (messages_more served.entries e))
           (spells_more d0.limits served.front flow.fed (messages_of served.entries) d2.reading.segments served.spells
           (spelt_next d1.limits d0.limits flow.fed h2 d2.reading.segments served.limits (flow.frames [] served.took)));
@@ -91,12 +91,12 @@ serves_on config h0 h2 T0 T1 T2 T3 L0 L1 L2 L3 W0 W1 W2 W3 d0 d1 d2 d3 outcome s
     }
 
 -- The write of a reply failed.
-pub reply_failed : (config : Config) (h0 h2 : List ℕ) (T0 T1 T2 T3 L0 L1 L2 L3 W0 W1 W2 W3 : Option (List ℕ)) (before now : ℕ) (d0 d1 d2 : Decoding) (outcome : Outcome) (n : ℕ) →
+pub reply_failed : (config : Config) (h0 h2 : List ℕ) (t0 t1 t2 t3 l0 l1 l2 l3 w0 w1 w2 w3 : Option (List ℕ)) (before now : ℕ) (d0 d1 d2 : Decoding) (outcome : Outcome) (n : ℕ) →
     ((limits : Limits) (bytes : List ℕ) → (messages : List (List Segment)) × (rest : List ℕ) × Framed limits bytes messages rest)
-    → HasServed config h0 T0 T1 L0 L1 W0 W1 d0 d1 → Flows steps.Message h0 h2 T1 T2 L1 L2 d1 d2 → Keeps W1 W2 → Keeps T2 T3 → Keeps L2 L3
-    → Appends W2 W3 (take n (reply_text (reply_with outcome (step config d2.reading.segments)))) → Rose before now
-    → Served config T0 T3 L0 L3 W0 W3 before now d0.limits WriteFault
-reply_failed config h0 h2 T0 T1 T2 T3 L0 L1 L2 L3 W0 W1 W2 W3 before now d0 d1 d2 outcome n framing served flow kept ktaken kleft said rose =
+    → HasServed config h0 t0 t1 l0 l1 w0 w1 d0 d1 → Flows steps.Message h0 h2 t1 t2 l1 l2 d1 d2 → Keeps w1 w2 → Keeps t2 t3 → Keeps l2 l3
+    → Appends w2 w3 (take n (reply_text (reply_with outcome (step config d2.reading.segments)))) → Rose before now
+    → Served config t0 t3 l0 l3 w0 w3 before now d0.limits WriteFault
+reply_failed config h0 h2 t0 t1 t2 t3 l0 l1 l2 l3 w0 w1 w2 w3 before now d0 d1 d2 outcome n framing served flow kept ktaken kleft said rose =
     let e : Entry = entry_for outcome d2.reading.segments in
     let bytes : (served.front ++ h0) ++ flow.gave ≡ (served.front ++ flow.fed) ++ h2 = along served.front h0 flow.gave flow.fed h2 flow.split in
     let behind = framing d0.limits h2 in
@@ -111,30 +111,30 @@ reply_failed config h0 h2 T0 T1 T2 T3 L0 L1 L2 L3 W0 W1 W2 W3 before now d0 d1 d
       gave = (served.front ++ flow.fed) ++ h2;
       wrote = replies_text config served.entries ++ take n (entry_text config e);
       own = own_more served.entries outcome d2.reading.segments served.own;
-      taken = subst (λ (w : List ℕ). Appends T0 T3 w) bytes (Appends-kept T0 T2 T3 _ (Appends-trans T0 T1 T2 (served.front ++ h0) flow.gave served.taken flow.taken) ktaken);
-      left = subst (λ (w : List ℕ). Consumes L0 L3 w) bytes (Consumes-kept L0 L2 L3 _ (Consumes-trans L0 L1 L2 (served.front ++ h0) flow.gave served.left flow.left) kleft);
-      written = Appends-trans W0 W2 W3 (replies_text config served.entries) (take n (entry_text config e)) (Appends-kept W0 W1 W2 _ served.written kept) said;
+      taken = subst (λ (w : List ℕ). Appends t0 t3 w) bytes (Appends-kept t0 t2 t3 _ (Appends-trans t0 t1 t2 (served.front ++ h0) flow.gave served.taken flow.taken) ktaken);
+      left = subst (λ (w : List ℕ). Consumes l0 l3 w) bytes (Consumes-kept l0 l2 l3 _ (Consumes-trans l0 l1 l2 (served.front ++ h0) flow.gave served.left flow.left) kleft);
+      written = Appends-trans w0 w2 w3 (replies_text config served.entries) (take n (entry_text config e)) (Appends-kept w0 w1 w2 _ served.written kept) said;
       framed = spells_framed d0.limits (served.front ++ flow.fed) h2 (messages_of (served.entries ++ e ∷ [])) behind.0 behind.1 spells behind.2;
       ends = (rose, inl (record { before = served.entries; last = e; said = n; later = behind.0; are = refl; a_front = refl; wrote = refl }));
     }
 
 -- What the session has read where it stops between the messages that it answered and bytes that are no message yet.
-pub record Stopped (config : Config) (T0 T2 L0 L2 W0 W2 : Option (List ℕ)) (limits : Limits) (d2 : Decoding) : Type 0 where
+pub record Stopped (config : Config) (t0 t2 l0 l2 w0 w2 : Option (List ℕ)) (limits : Limits) (d2 : Decoding) : Type 0 where
   pub entries : List Entry
   pub front : List ℕ
   pub rest : List ℕ
   pub own : AllByRecursion IsOwn entries
-  pub taken : Appends T0 T2 (front ++ rest)
-  pub left : Consumes L0 L2 (front ++ rest)
-  pub written : Appends W0 W2 (replies_text config entries)
+  pub taken : Appends t0 t2 (front ++ rest)
+  pub left : Consumes l0 l2 (front ++ rest)
+  pub written : Appends w0 w2 (replies_text config entries)
   pub framed : Framed limits (front ++ rest) (messages_of entries) rest
   pub unbroken : (place : ℕ) (reason : Reason) → Broken limits rest place reason → ⊥
   pub took : Took d2 rest
   pub place : d2.taken ≡ told (length (front ++ rest))
 
-pub stops : (config : Config) (h0 h2 : List ℕ) (T0 T1 T2 L0 L1 L2 W0 W1 W2 : Option (List ℕ)) (d0 d1 d2 : Decoding) → HasServed config h0 T0 T1 L0 L1 W0 W1 d0 d1
-    → Flows steps.More h0 h2 T1 T2 L1 L2 d1 d2 → h2 ≡ [] → Keeps W1 W2 → Stopped config T0 T2 L0 L2 W0 W2 d0.limits d2
-stops config h0 h2 T0 T1 T2 L0 L1 L2 W0 W1 W2 d0 d1 d2 served flow none kept =
+pub stops : (config : Config) (h0 h2 : List ℕ) (t0 t1 t2 l0 l1 l2 w0 w1 w2 : Option (List ℕ)) (d0 d1 d2 : Decoding) → HasServed config h0 t0 t1 l0 l1 w0 w1 d0 d1
+    → Flows steps.More h0 h2 t1 t2 l1 l2 d1 d2 → h2 ≡ [] → Keeps w1 w2 → Stopped config t0 t2 l0 l2 w0 w2 d0.limits d2
+stops config h0 h2 t0 t1 t2 l0 l1 l2 w0 w1 w2 d0 d1 d2 served flow none kept =
     let whole : flow.fed ++ h2 ≡ flow.fed = ap (λ (w : List ℕ). flow.fed ++ w) none ∙ append-nil flow.fed in
     let bytes : (served.front ++ h0) ++ flow.gave ≡ served.front ++ flow.fed =
     along served.front h0 flow.gave flow.fed h2 flow.split ∙ append_assoc served.front flow.fed h2 ∙ ap (λ (w : List ℕ). served.front ++ w) whole in
@@ -146,9 +146,9 @@ stops config h0 h2 T0 T1 T2 L0 L1 L2 W0 W1 W2 d0 d1 d2 served flow none kept =
       front = served.front;
       rest = flow.fed;
       own = served.own;
-      taken = subst (λ (w : List ℕ). Appends T0 T2 w) bytes (Appends-trans T0 T1 T2 (served.front ++ h0) flow.gave served.taken flow.taken);
-      left = subst (λ (w : List ℕ). Consumes L0 L2 w) bytes (Consumes-trans L0 L1 L2 (served.front ++ h0) flow.gave served.left flow.left);
-      written = Appends-kept W0 W1 W2 _ served.written kept;
+      taken = subst (λ (w : List ℕ). Appends t0 t2 w) bytes (Appends-trans t0 t1 t2 (served.front ++ h0) flow.gave served.taken flow.taken);
+      left = subst (λ (w : List ℕ). Consumes l0 l2 w) bytes (Consumes-trans l0 l1 l2 (served.front ++ h0) flow.gave served.left flow.left);
+      written = Appends-kept w0 w1 w2 _ served.written kept;
       framed = spells_rest d0.limits served.front flow.fed (messages_of served.entries) served.spells open_.unspelt;
       unbroken = open_.unbroken;
       took = flow.feeds.took [] served.took;
@@ -165,9 +165,9 @@ white_or : (d : Decoding) (rest : List ℕ) → outcome_of d.reading.phase d.tak
 white_or d rest none (inl stands) = absurd (not_standing d none stands)
 white_or d rest none (inr both) = both.1
 
-pub ended : (config : Config) (T0 T2 L0 L2 W0 W2 : Option (List ℕ)) (before now : ℕ) (limits : Limits) (held : List ℕ) (d2 : Decoding) → Stopped config T0 T2 L0 L2 W0 W2 limits d2 → IsSpent held L2 d2
-    → ((came : List ℕ) → Took d2 came → EndsBetween d2 came) → Served config T0 T2 L0 L2 W0 W2 before now limits Ended
-ended config T0 T2 L0 L2 W0 W2 before now limits held d2 s spent between =
+pub ended : (config : Config) (t0 t2 l0 l2 w0 w2 : Option (List ℕ)) (before now : ℕ) (limits : Limits) (held : List ℕ) (d2 : Decoding) → Stopped config t0 t2 l0 l2 w0 w2 limits d2 → IsSpent held l2 d2
+    → ((came : List ℕ) → Took d2 came → EndsBetween d2 came) → Served config t0 t2 l0 l2 w0 w2 before now limits Ended
+ended config t0 t2 l0 l2 w0 w2 before now limits held d2 s spent between =
     record {
       entries = s.entries;
       messages = messages_of s.entries;
@@ -182,9 +182,9 @@ ended config T0 T2 L0 L2 W0 W2 before now limits held d2 s spent between =
       ends = (refl, refl, spent.at_end, white_or d2 s.rest spent.none (between s.rest s.took), s.unbroken);
     }
 
-pub cut : (config : Config) (T0 T2 L0 L2 W0 W2 : Option (List ℕ)) (before now place : ℕ) (limits : Limits) (held : List ℕ) (d2 : Decoding) → Stopped config T0 T2 L0 L2 W0 W2 limits d2 → IsSpent held L2 d2
-    → place ≡ d2.taken → ((came : List ℕ) → Took d2 came → EndsBetween d2 came → ⊥) → Served config T0 T2 L0 L2 W0 W2 before now limits (Cut place)
-cut config T0 T2 L0 L2 W0 W2 before now place limits held d2 s spent is inside =
+pub cut : (config : Config) (t0 t2 l0 l2 w0 w2 : Option (List ℕ)) (before now place : ℕ) (limits : Limits) (held : List ℕ) (d2 : Decoding) → Stopped config t0 t2 l0 l2 w0 w2 limits d2 → IsSpent held l2 d2
+    → place ≡ d2.taken → ((came : List ℕ) → Took d2 came → EndsBetween d2 came → ⊥) → Served config t0 t2 l0 l2 w0 w2 before now limits (Cut place)
+cut config t0 t2 l0 l2 w0 w2 before now place limits held d2 s spent is inside =
     record {
       entries = s.entries;
       messages = messages_of s.entries;
@@ -199,9 +199,9 @@ cut config T0 T2 L0 L2 W0 W2 before now place limits held d2 s spent is inside =
       ends = (refl, refl, spent.at_end, (λ white. inside s.rest s.took (inr ((λ reason stuck. not_stuck d2 reason spent.none stuck), white))), s.unbroken, is ∙ s.place);
     }
 
-pub read_failed : (config : Config) (T0 T2 L0 L2 W0 W2 : Option (List ℕ)) (before now : ℕ) (limits : Limits) (d2 : Decoding) → Stopped config T0 T2 L0 L2 W0 W2 limits d2 → Rose before now
-    → Served config T0 T2 L0 L2 W0 W2 before now limits ReadFault
-read_failed config T0 T2 L0 L2 W0 W2 before now limits d2 s rose =
+pub read_failed : (config : Config) (t0 t2 l0 l2 w0 w2 : Option (List ℕ)) (before now : ℕ) (limits : Limits) (d2 : Decoding) → Stopped config t0 t2 l0 l2 w0 w2 limits d2 → Rose before now
+    → Served config t0 t2 l0 l2 w0 w2 before now limits ReadFault
+read_failed config t0 t2 l0 l2 w0 w2 before now limits d2 s rose =
     record {
       entries = s.entries;
       messages = messages_of s.entries;
@@ -217,22 +217,22 @@ read_failed config T0 T2 L0 L2 W0 W2 before now limits d2 s rose =
     }
 
 -- The bytes break, and the framing text was said, or a front of it.
-pub record Breaks (config : Config) (T0 T3 L0 L3 W0 W2 : Option (List ℕ)) (limits : Limits) (place : ℕ) (reason : Reason) : Type 0 where
+pub record Breaks (config : Config) (t0 t3 l0 l3 w0 w2 : Option (List ℕ)) (limits : Limits) (place : ℕ) (reason : Reason) : Type 0 where
   pub entries : List Entry
   pub front : List ℕ
   pub rest : List ℕ
   pub p : ℕ
   pub own : AllByRecursion IsOwn entries
-  pub taken : Appends T0 T3 (front ++ rest)
-  pub left : Consumes L0 L3 (front ++ rest)
-  pub written : Appends W0 W2 (replies_text config entries)
+  pub taken : Appends t0 t3 (front ++ rest)
+  pub left : Consumes l0 l3 (front ++ rest)
+  pub written : Appends w0 w2 (replies_text config entries)
   pub framed : Framed limits (front ++ rest) (messages_of entries) rest
   pub breaks : Broken limits rest p reason
   pub at : place ≡ told (length front + p)
 
-pub breaks_at : (config : Config) (h0 h2 : List ℕ) (T0 T1 T2 T3 L0 L1 L2 L3 W0 W1 W2 : Option (List ℕ)) (d0 d1 d2 : Decoding) (place : ℕ) (reason : Reason) → HasServed config h0 T0 T1 L0 L1 W0 W1 d0 d1
-    → Flows (steps.Fault place reason) h0 h2 T1 T2 L1 L2 d1 d2 → Keeps W1 W2 → Keeps T2 T3 → Keeps L2 L3 → place ≡ d2.taken → Breaks config T0 T3 L0 L3 W0 W2 d0.limits place reason
-breaks_at config h0 h2 T0 T1 T2 T3 L0 L1 L2 L3 W0 W1 W2 d0 d1 d2 place reason served flow kept ktaken kleft is =
+pub breaks_at : (config : Config) (h0 h2 : List ℕ) (t0 t1 t2 t3 l0 l1 l2 l3 w0 w1 w2 : Option (List ℕ)) (d0 d1 d2 : Decoding) (place : ℕ) (reason : Reason) → HasServed config h0 t0 t1 l0 l1 w0 w1 d0 d1
+    → Flows (steps.Fault place reason) h0 h2 t1 t2 l1 l2 d1 d2 → Keeps w1 w2 → Keeps t2 t3 → Keeps l2 l3 → place ≡ d2.taken → Breaks config t0 t3 l0 l3 w0 w2 d0.limits place reason
+breaks_at config h0 h2 t0 t1 t2 t3 l0 l1 l2 l3 w0 w1 w2 d0 d1 d2 place reason served flow kept ktaken kleft is =
     let bytes : (served.front ++ h0) ++ flow.gave ≡ served.front ++ (flow.fed ++ h2) =
     along served.front h0 flow.gave flow.fed h2 flow.split ∙ append_assoc served.front flow.fed h2 in
     let fault = flow.frames [] served.took in
@@ -242,9 +242,9 @@ breaks_at config h0 h2 T0 T1 T2 T3 L0 L1 L2 L3 W0 W1 W2 d0 d1 d2 place reason se
       rest = flow.fed ++ h2;
       p = length flow.fed;
       own = served.own;
-      taken = subst (λ (w : List ℕ). Appends T0 T3 w) bytes (Appends-kept T0 T2 T3 _ (Appends-trans T0 T1 T2 (served.front ++ h0) flow.gave served.taken flow.taken) ktaken);
-      left = subst (λ (w : List ℕ). Consumes L0 L3 w) bytes (Consumes-kept L0 L2 L3 _ (Consumes-trans L0 L1 L2 (served.front ++ h0) flow.gave served.left flow.left) kleft);
-      written = Appends-kept W0 W1 W2 _ served.written kept;
+      taken = subst (λ (w : List ℕ). Appends t0 t3 w) bytes (Appends-kept t0 t2 t3 _ (Appends-trans t0 t1 t2 (served.front ++ h0) flow.gave served.taken flow.taken) ktaken);
+      left = subst (λ (w : List ℕ). Consumes l0 l3 w) bytes (Consumes-kept l0 l2 l3 _ (Consumes-trans l0 l1 l2 (served.front ++ h0) flow.gave served.left flow.left) kleft);
+      written = Appends-kept w0 w1 w2 _ served.written kept;
       framed = spells_rest d0.limits served.front (flow.fed ++ h2) (messages_of served.entries) served.spells
           (subst (λ (l : Limits). NothingSpelt l (flow.fed ++ h2)) served.limits fault.1);
       breaks = subst (λ (l : Limits). Broken l (flow.fed ++ h2) (length flow.fed) reason) served.limits
@@ -252,9 +252,9 @@ breaks_at config h0 h2 T0 T1 T2 T3 L0 L1 L2 L3 W0 W1 W2 d0 d1 d2 place reason se
       at = omega (arith, is, flow.feeds.place, served.place);
     }
 
-pub framing_said : (config : Config) (T0 T3 L0 L3 W0 W2 W3 : Option (List ℕ)) (before now place : ℕ) (limits : Limits) (reason : Reason) → Breaks config T0 T3 L0 L3 W0 W2 limits place reason
-    → Appends W2 W3 framing_text → Served config T0 T3 L0 L3 W0 W3 before now limits (Framing place reason)
-framing_said config T0 T3 L0 L3 W0 W2 W3 before now place limits reason b said =
+pub framing_said : (config : Config) (t0 t3 l0 l3 w0 w2 w3 : Option (List ℕ)) (before now place : ℕ) (limits : Limits) (reason : Reason) → Breaks config t0 t3 l0 l3 w0 w2 limits place reason
+    → Appends w2 w3 framing_text → Served config t0 t3 l0 l3 w0 w3 before now limits (Framing place reason)
+framing_said config t0 t3 l0 l3 w0 w2 w3 before now place limits reason b said =
     record {
       entries = b.entries;
       messages = messages_of b.entries;
@@ -264,14 +264,14 @@ framing_said config T0 T3 L0 L3 W0 W2 W3 before now place limits reason b said =
       own = b.own;
       taken = b.taken;
       left = b.left;
-      written = Appends-trans W0 W2 W3 (replies_text config b.entries) framing_text b.written said;
+      written = Appends-trans w0 w2 w3 (replies_text config b.entries) framing_text b.written said;
       framed = b.framed;
       ends = (refl, refl, b.p, b.breaks, length b.front, sym (length-append b.front b.rest), b.at);
     }
 
-pub framing_failed : (config : Config) (T0 T3 L0 L3 W0 W2 W3 : Option (List ℕ)) (before now place : ℕ) (limits : Limits) (reason : Reason) (n : ℕ) → Breaks config T0 T3 L0 L3 W0 W2 limits place reason
-    → Appends W2 W3 (take n framing_text) → Rose before now → Served config T0 T3 L0 L3 W0 W3 before now limits WriteFault
-framing_failed config T0 T3 L0 L3 W0 W2 W3 before now place limits reason n b said rose =
+pub framing_failed : (config : Config) (t0 t3 l0 l3 w0 w2 w3 : Option (List ℕ)) (before now place : ℕ) (limits : Limits) (reason : Reason) (n : ℕ) → Breaks config t0 t3 l0 l3 w0 w2 limits place reason
+    → Appends w2 w3 (take n framing_text) → Rose before now → Served config t0 t3 l0 l3 w0 w3 before now limits WriteFault
+framing_failed config t0 t3 l0 l3 w0 w2 w3 before now place limits reason n b said rose =
     record {
       entries = b.entries;
       messages = messages_of b.entries;
@@ -281,7 +281,7 @@ framing_failed config T0 T3 L0 L3 W0 W2 W3 before now place limits reason n b sa
       own = b.own;
       taken = b.taken;
       left = b.left;
-      written = Appends-trans W0 W2 W3 (replies_text config b.entries) (take n framing_text) b.written said;
+      written = Appends-trans w0 w2 w3 (replies_text config b.entries) (take n framing_text) b.written said;
       framed = b.framed;
       ends = (rose, inr (record { place = b.p; reason = reason; said = n; breaks = b.breaks; all = refl; wrote = refl }));
     }
