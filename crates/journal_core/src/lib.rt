@@ -18,6 +18,8 @@ mod law;
 mod moment;
 mod open;
 mod records;
+#[cfg(test)]
+mod tests;
 
 pub use create::{InitFault, init};
 pub use journal::{CommitFault, Journal, Room};

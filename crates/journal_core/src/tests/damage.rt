@@ -1,0 +1,116 @@
+//! Files that are refused, and where.
+use super::file_of;
+use crate::{Journal, OpenFault};
+use disk_core::MemoryDisk;
+use std::alloc::Global;
+use std::test::Fail;
+
+// What opening a file with these bytes answers: how many bodies, or the refusal.
+pub(super) fn answer_to(alloc: Global, file: &[u8]) -> Result<Result<usize, OpenFault>, Fail> {
+    match Journal::open(alloc, MemoryDisk::new(alloc, file, &[])?) {
+        Ok((_, records)) => Ok(Ok(records.len())),
+        Err((_, fault)) => Ok(Err(fault)),
+    }
+}
+
+// The same of an area of 64 bytes on side 0, which begins so.
+fn area_answer(alloc: Global, area: &[u8]) -> Result<Result<usize, OpenFault>, Fail> {
+    answer_to(alloc, &file_of(alloc, 64, 0, area)?)
+}
+
+#[test]
+fn a_gate_that_is_not_open_ends_the_list(rt: HostRuntime) -> Result<(), Fail> {
+    let alloc = rt.alloc();
+    assert_eq!(rt; area_answer(alloc, b"\x01\0")?, Ok(0));
+    assert_eq!(rt; area_answer(alloc, b"\x01\x37")?, Ok(0));
+    assert_eq!(rt; area_answer(alloc, b"\x01\x01\0\0\0\0\0\0\0\0\0")?, Ok(1));
+    assert_eq!(rt;
+        area_answer(alloc, b"\x01\x01\0\0\0\0\0\0\0\x01a\x02")?,
+        Ok(1)
+    );
+    Ok(())
+}
+
+#[test]
+fn an_open_gate_with_no_whole_record_is_damage_at_its_place(rt: HostRuntime) -> Result<(), Fail> {
+    let alloc = rt.alloc();
+    let first = Err(OpenFault::Damaged { place: 33 });
+    let second = Err(OpenFault::Damaged { place: 43 });
+    assert_eq!(rt; area_answer(alloc, b"\x01")?, first, "no gate");
+    assert_eq!(rt; area_answer(alloc, b"\x01\x01\x01")?, first, "one byte");
+    assert_eq!(rt;
+        area_answer(alloc, b"\x01\x01\0\0\0\0\0\0\0")?,
+        first,
+        "half a length"
+    );
+    assert_eq!(rt;
+        area_answer(alloc, b"\x01\x01\0\0\0\0\0\0\0\0")?,
+        first,
+        "no next gate"
+    );
+    assert_eq!(rt;
+        area_answer(alloc, b"\x01\x01\0\0\0\0\0\0\0\x02a")?,
+        first,
+        "half a body"
+    );
+    assert_eq!(rt;
+        area_answer(alloc, b"\x01\x01\xff\xff\xff\xff\xff\xff\xff\xff\0")?,
+        first,
+        "too long"
+    );
+    assert_eq!(rt;
+        area_answer(alloc, b"\x01\x01\0\0\0\0\0\0\0\x01a\x01")?,
+        second,
+        "behind a body"
+    );
+    Ok(())
+}
+
+#[test]
+fn a_record_must_end_inside_the_area(rt: HostRuntime) -> Result<(), Fail> {
+    let alloc = rt.alloc();
+    let mut area = b"\x01\x01\0\0\0\0\0\0\0\x35".to_vec(alloc)?;
+    area.extend_from_slice(&vec![in alloc; 0; 60]?)?;
+    assert_eq!(rt;
+        area_answer(alloc, &area)?,
+        Ok(1),
+        "the gate is the last byte"
+    );
+    let mut area = b"\x01\x01\0\0\0\0\0\0\0\x36".to_vec(alloc)?;
+    area.extend_from_slice(&vec![in alloc; 0; 60]?)?;
+    let want = Err(OpenFault::Damaged { place: 33 });
+    assert_eq!(rt;
+        area_answer(alloc, &area)?,
+        want,
+        "the gate is past the area"
+    );
+    Ok(())
+}
+
+#[test]
+fn another_header_is_no_store(rt: HostRuntime) -> Result<(), Fail> {
+    let alloc = rt.alloc();
+    let none = Err(OpenFault::NotAStore);
+    assert_eq!(rt; answer_to(alloc, b"")?, none, "empty");
+    assert_eq!(rt; answer_to(alloc, &vec![in alloc; 0; 32]?)?, none, "zeros");
+    assert_eq!(rt; area_answer(alloc, b"")?, none, "no version");
+    for area in [63, 268_435_457] {
+        assert_eq!(rt;
+            answer_to(alloc, &file_of(alloc, area, 0, b"\x01\0")?)?,
+            none,
+            "area {area}"
+        );
+    }
+    for place in 0..34 {
+        let mut file = file_of(alloc, 64, 0, b"\x01\0")?;
+        assert_eq!(rt; file.len(), 34);
+        file[place] = 3;
+        let refused = answer_to(alloc, &file)? == none;
+        assert_eq!(rt;
+            refused,
+            place < 12 || (15..32).contains(&place),
+            "byte {place}"
+        );
+    }
+    Ok(())
+}
