@@ -124,8 +124,10 @@ fn an_input_stands_in_one_place(rt: HostRuntime) -> Result<(), Fail> {
     let alloc = rt.alloc();
     let both = "{\"requestId\":\"a\",\"targetId\":\"t\",\"operationId\":\"o\",\"input\":0}";
     let mut message = one(alloc, both)?;
-    let request = request_of(alloc, &message).ok().ok_or("a request")?;
-    assert!(rt; matches!(request.input, Body::Value(Json::Whole(_))));
+    match request_of(alloc, &message) {
+        Ok(request) => assert!(rt; matches!(request.input, Body::Value(Json::Whole(_)))),
+        Err(_) => return Err(Fail::from("no request")),
+    }
     message.push(Kind::Bytes, b"b")?;
     match request_of(alloc, &message) {
         Err(fault) => {
@@ -134,17 +136,27 @@ fn an_input_stands_in_one_place(rt: HostRuntime) -> Result<(), Fail> {
         }
         Ok(_) => return Err(Fail::from("two inputs")),
     }
+    Ok(())
+}
+
+#[test]
+fn a_null_input_leaves_the_parts(rt: HostRuntime) -> Result<(), Fail> {
+    let alloc = rt.alloc();
     let null = "{\"targetId\":\"t\",\"operationId\":\"o\",\"input\":null,\"authentication\":{}}";
-    let mut parted = one(alloc, null)?;
-    parted.push(Kind::Bytes, b"b")?;
-    let request = request_of(alloc, &parted).ok().ok_or("a request")?;
-    assert!(rt; request.authentication.is_none());
-    match request.input {
-        Body::Parts(parts) => {
-            assert_eq!(rt; parts.count(), 1);
-            assert_eq!(rt; parts.bytes(0), b"b".as_slice());
+    let mut message = one(alloc, null)?;
+    message.push(Kind::Bytes, b"b")?;
+    match request_of(alloc, &message) {
+        Ok(request) => {
+            assert!(rt; request.authentication.is_none());
+            match &request.input {
+                Body::Parts(parts) => {
+                    assert_eq!(rt; parts.count(), 1);
+                    assert_eq!(rt; parts.bytes(0), b"b".as_slice());
+                }
+                _ => return Err(Fail::from("no parts")),
+            }
         }
-        _ => return Err(Fail::from("no parts")),
+        Err(_) => return Err(Fail::from("no request")),
     }
     Ok(())
 }
