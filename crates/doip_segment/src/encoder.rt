@@ -6,6 +6,7 @@ ghost use Rattle.doip_segment.specs.Canonical.{IsPlain, AreEncodable, chunks_tex
 
 use crate::kind::Kind;
 use crate::message::Message;
+use doip_json::Bytes;
 use memchr::memchr;
 use std::alloc::{AllocError, Global};
 
@@ -61,14 +62,14 @@ fn put_segment(alloc: Global, out: &mut Vec<u8>, kind: Kind, bytes: &[u8]) -> Re
 /// The canonical spelling of the message: no white or blank byte outside contents, no leading zero, one chunk for a byte
 /// segment that has bytes, and no chunk for one that has none. Each JSON segment is plain, there are at most 2,048 segments,
 /// and each byte segment has fewer than 10^10 bytes.
-pub fn encode(alloc: Global, message: &Message) -> Result<Vec<u8>, AllocError>
+pub fn encode(alloc: Global, message: &Message) -> Result<Bytes, AllocError>
     requires { AreEncodable message.now.segments }
-    ensures { IfOk result (λ v. v.items ≡ canonical message.now.segments) }
+    ensures { IfOk result (λ bytes. bytes ≡ canonical message.now.segments) }
 {
     let mut out = Vec::new(alloc);
     for i in 0..message.count() {
         put_segment(alloc, &mut out, message.kind(i), message.bytes(i))?;
     }
     out.extend_from_slice(b"#\n")?;
-    Ok(out)
+    Ok(Bytes::from_vec(out))
 }

@@ -10,6 +10,7 @@ ghost use Rattle.repo_step.specs.History.{Outcome, reply_with};
 ghost use Rattle.repo_top.specs.Serving.{Served};
 
 use crate::SessionEnd;
+use doip_json::Bytes;
 use doip_message::{FRAMING_TEXT, MEMORY_TEXT, fixed_texts_are_replies, response_message};
 use doip_segment::{Decoder, Message, each_stream_has_one_framing, encode};
 use link_core::Link;
@@ -18,8 +19,8 @@ use session_core::{Next, Reader, WriteFault, say};
 use std::alloc::{AllocError, Global};
 
 // The text of the reply to a message.
-fn reply_of(alloc: Global, config: &Config, message: &Message) -> Result<Vec<u8>, AllocError>
-    ensures { IfOk result (λ text. text.items ≡ reply_text (step config.now message.now.segments)) }
+fn reply_of(alloc: Global, config: &Config, message: &Message) -> Result<Bytes, AllocError>
+    ensures { IfOk result (λ text. text ≡ reply_text (step config.now message.now.segments)) }
 {
     let planned = answer(alloc, config, message)?;
     let message = response_message(alloc, &planned.response)?;
@@ -47,7 +48,7 @@ fn reply<L: Link>(
     ensures reads { L.reads link.new ≤ L.reads link.old }
 {
     let said = match reply_of(alloc, config, decoder.message()) {
-        Ok(text) => say(link, &text),
+        Ok(text) => say(link, text.get()),
         Err(AllocError) => {
             fixed_texts_are_replies();
             say(link, MEMORY_TEXT)
