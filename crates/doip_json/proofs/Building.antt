@@ -1,14 +1,13 @@
 -- Lemmas for the crates above: tables that `put` builds, lists that `push` builds, and what lies in a value.
-use Rattle.std.proofs.Common.{◌≡◌, ◌≢◌, ℕ, suc, ◌<◌, ◌≤◌, max, List, [], ◌∷◌, ◌++◌, Bool, true, false, if◌then◌else◌, Option, Some, None, nat_eq, refl, sym, ap, ◌∙◌, subst, arith}
+use Rattle.std.proofs.Common.{◌≡◌, ◌≢◌, ℕ, ◌<◌, ◌≤◌, max, List, [], ◌∷◌, ◌++◌, Bool, true, false, if◌then◌else◌, Option, Some, nat_eq, refl, sym, ap, ◌∙◌, arith}
 use Rattle.std.specs.Ordering.{match_ordering, is_eq}
 use Rattle.std.specs.declared.cmp.Ordering.{Ordering}
 use Rattle.std.specs.declared.cmp.Ordering.TheVariants.{Less, Equal, Greater}
 use Rattle.std.specs.BTreeMap.{insert_entry}
 use Rattle.std.specs.Cmp.Lexicographic.{pointwise, texts_ties}
-use Rattle.doip_json.specs.Value.{Value, null, truth, whole, text, list, table, Values, no_values, value, Entries, no_entries, entry, values_from, entries_from, depth_of, deepest_value, deepest_entry}
+use Rattle.doip_json.specs.Value.{Value, null, truth, whole, text, list, table, Entries, no_entries, entry, values_from, entries_from, depth_of, deepest_value, deepest_entry}
 use Rattle.doip_json.specs.Look.{entry_of, field_of}
-use Rattle.doip_json.specs.Sound.{IsSound, EntriesAreSound}
-use Rattle.doip_json.proofs.Ascending.{Pairs, compared, compared_self, equal_same}
+use Rattle.doip_json.proofs.Ascending.{Pairs, compared, equal_same}
 use Rattle.doip_json.proofs.Found.{differs, same_key}
 
 -- ---- a key after a put

@@ -1,8 +1,8 @@
 //! Texts with their values and faults, pointers, and a happy run of each call.
 
 use crate::{
-    Bytes, Json, JsonFault, JsonList, JsonMap, Num, Str, at_pointer, copy, get, is_same, read,
-    reads_back, text,
+    Bytes, Json, JsonFault, JsonList, JsonMap, Num, Str, at_pointer, copy, copy_map, get,
+    is_one_line, is_same, read, reads_back, text,
 };
 use std::alloc::{AllocError, Global};
 use std::test::Fail;
@@ -265,6 +265,27 @@ fn a_value_is_built_looked_into_and_copied(rt: HostRuntime) -> Result<(), Fail> 
     assert_eq!(rt; map.len(), 2);
     assert_eq!(rt; map.key_at(1).get(), "b");
     assert!(rt; matches!(map.value_at(0), Json::Truth(true)));
+    Ok(())
+}
+
+#[test]
+fn a_value_is_taken_out_and_null_stays(rt: HostRuntime) -> Result<(), Fail> {
+    let Json::Table(mut map) = built(rt.alloc())? else {
+        return Err(Fail::from("no table"));
+    };
+    let whole = copy_map(rt.alloc(), &map)?;
+    assert!(rt; map.take("c").is_none());
+    assert!(rt; matches!(map.take("a"), Some(Json::Truth(true))));
+    let left = Json::Table(map);
+    is_one_line(&left);
+    assert_eq!(rt;
+        text(rt.alloc(), &left)?.get(),
+        b"{\"a\":null,\"b\":[-1,\"x\"]}".as_slice()
+    );
+    assert_eq!(rt;
+        text(rt.alloc(), &Json::Table(whole))?.get(),
+        b"{\"a\":true,\"b\":[-1,\"x\"]}".as_slice()
+    );
     Ok(())
 }
 

@@ -1,7 +1,6 @@
 -- Properties of a first segment, read one after another.
-use Rattle.std.proofs.Common.{◌≡◌, ◌≢◌, ◌<◌, ℕ, List, [], ◌∷◌, length, Bool, true, false, Some, nat_eq, refl, sym, ap, ◌∙◌, arith}
-use Rattle.std.specs.Cmp.Lexicographic.{pointwise, texts_ties}
-use Rattle.doip_json.specs.Value.{Value, Entries, table, entries_from}
+use Rattle.std.proofs.Common.{◌≡◌, ◌≢◌, ℕ, List, [], ◌∷◌, length, Some, refl}
+use Rattle.doip_json.specs.Value.{Value, table, entries_from}
 use Rattle.doip_message.specs.Reading.{authentication_in}
 
 -- a table with entries is who asks

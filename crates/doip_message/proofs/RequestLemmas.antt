@@ -1,5 +1,5 @@
 -- A request from its properties.
-use Rattle.std.proofs.Common.{◌≡◌, ℕ, List, Option, None, Result, Ok, Err, refl, sym, ap, ◌∙◌, codes, option_map}
+use Rattle.std.proofs.Common.{◌≡◌, ℕ, List, Option, Result, Ok, Err, sym, ap, ◌∙◌, codes, option_map}
 use Rattle.doip_json.specs.declared.value.Json.{Json}
 use Rattle.doip_json.specs.Value.{Value}
 use Rattle.doip_json.specs.Meaning.{value_of}

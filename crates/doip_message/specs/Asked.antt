@@ -1,5 +1,5 @@
 -- What a request asks and what a response answers, as plain data (DOIP 2.0, requests and responses).
-use Rattle.std.specs.Prelude.{ℕ, List, Option, None, Some, option_map}
+use Rattle.std.specs.Prelude.{ℕ, List, Option, option_map}
 use Rattle.doip_json.specs.Value.{Value, Entries, entries_from}
 use Rattle.doip_json.specs.Meaning.{value_of}
 use Rattle.doip_segment.specs.Segments.{Segment}

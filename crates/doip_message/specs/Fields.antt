@@ -1,5 +1,5 @@
 -- The properties that are read of a request's first segment, each absent where it is `null`. A private reader is stated by these.
-use Rattle.std.specs.Prelude.{◌≡◌, ℕ, List, Option, None, Some, Result, Ok, Err, codes, option_map}
+use Rattle.std.specs.Prelude.{List, Option, Result, Ok, codes, option_map}
 use Rattle.doip_json.specs.Value.{Value}
 use Rattle.doip_json.specs.Meaning.{value_of}
 use Rattle.doip_segment.specs.Segments.{Segment}

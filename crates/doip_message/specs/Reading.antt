@@ -1,7 +1,7 @@
 -- The request that a message spells, or its first fault (the properties are those of DOIP 2.0; the order is this project's own).
 use Rattle.std.specs.Prelude.{◌≡◌, ℕ, List, [], ◌∷◌, Option, None, Some, Result, Ok, Err, codes}
 use Rattle.doip_json.specs.declared.reading.JsonFault.{JsonFault}
-use Rattle.doip_json.specs.Value.{Value, null, truth, whole, text, list, table, Entries, no_entries, entry}
+use Rattle.doip_json.specs.Value.{Value, null, text, table, Entries, no_entries}
 use Rattle.doip_json.specs.Look.{field_of}
 use Rattle.doip_json.specs.Read.{reading}
 use Rattle.doip_segment.specs.declared.kind.Kind.{Kind}

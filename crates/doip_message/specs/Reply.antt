@@ -2,7 +2,6 @@
 use Rattle.std.specs.Prelude.{ℕ, ◌≤◌, List, [], ◌∷◌, ◌++◌, length, Option, None, Some, option_map, codes}
 use Rattle.std.specs.List.{AllByRecursion}
 use Rattle.doip_json.specs.Value.{Value, text, table, entries_from}
-use Rattle.doip_json.specs.Meaning.{value_of}
 use Rattle.doip_json.specs.Text.{text_of}
 use Rattle.doip_segment.specs.declared.kind.Kind.TheVariants as kinds
 use Rattle.doip_segment.specs.Segments.{Segment, segment}

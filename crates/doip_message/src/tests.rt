@@ -1,14 +1,118 @@
 //! First segments with the request or the fault that each gives, and responses with their bytes.
 use super::*;
-use doip_json::{Json, JsonFault, JsonMap, Str};
-use doip_segment::{Kind, Message};
+use doip_json::{Bytes, Json, JsonFault, JsonMap, Str, read, text};
+use doip_segment::{Kind, Message, encode};
 use std::alloc::{AllocError, Global};
 use std::test::Fail;
 
-fn one(alloc: Global, first: &str) -> Result<Message, AllocError> {
+// A message of this first segment, with one of the byte `b` behind it where asked.
+fn message_of(alloc: Global, first: &[u8], has_more: bool) -> Result<Message, AllocError> {
     let mut message = Message::empty(alloc);
-    message.push(Kind::Json, first.as_bytes())?;
+    message.push(Kind::Json, first)?;
+    if has_more {
+        message.push(Kind::Bytes, b"b")?;
+    }
     Ok(message)
+}
+
+fn text_or_dash(alloc: Global, text: &Option<Str>) -> Result<Bytes, AllocError> {
+    match text {
+        Some(text) => Bytes::of(alloc, text.get().as_bytes()),
+        None => Bytes::of(alloc, b"-"),
+    }
+}
+
+// The properties of a request in the order of its type, `-` for what is absent and the number of its parts.
+fn shown(alloc: Global, request: Request) -> Result<Vec<u8>, AllocError> {
+    let mark = text_or_dash(alloc, &request.request_id)?;
+    let target = Bytes::of(alloc, request.target_id.get().as_bytes())?;
+    let operation = Bytes::of(alloc, request.operation_id.get().as_bytes())?;
+    let attributes = text(alloc, &Json::Table(request.attributes))?;
+    let who = match &request.authentication {
+        Some(who) => text(alloc, who)?,
+        None => Bytes::of(alloc, b"-")?,
+    };
+    let input = match &request.input {
+        Body::Nothing => Bytes::of(alloc, b"-")?,
+        Body::Value(value) => text(alloc, value)?,
+        Body::Parts(parts) => {
+            Bytes::from_vec(format!(in alloc; "{} more", parts.count())?.into_bytes())
+        }
+    };
+    let mut out = Vec::new(alloc);
+    for piece in [&mark, &target, &operation, &attributes, &who, &input] {
+        out.extend_from_slice(piece.get())?;
+        out.push(b';')?;
+    }
+    Ok(out)
+}
+
+#[test]
+fn each_first_segment_gives_its_request(rt: HostRuntime) -> Result<(), Fail> {
+    let alloc = rt.alloc();
+    let table: [(&[u8], bool, &[u8]); 10] = [
+        (
+            b"{\"targetId\":\"t\",\"operationId\":\"o\"}",
+            false,
+            b"-;t;o;{};-;-;",
+        ),
+        (
+            b"{\"targetId\":\"t\",\"operationId\":\"o\"}",
+            true,
+            b"-;t;o;{};-;1 more;",
+        ),
+        (
+            b"{\"requestId\":\"a\",\"targetId\":\"t\",\"operationId\":\"o\",\"attributes\":{\"k\":null},\"authentication\":{\"u\":\"x\"},\"input\":[1]}",
+            false,
+            b"a;t;o;{\"k\":null};{\"u\":\"x\"};[1];",
+        ),
+        // The order of the properties is free, and others are not read.
+        (
+            b" { \"x\" : 1 , \"operationId\" : \"o\" , \"clientId\" : 2 , \"targetId\" : \"t\" , \"requestId\" : \"a\" } ",
+            false,
+            b"a;t;o;{};-;-;",
+        ),
+        // Null counts as absent.
+        (
+            b"{\"requestId\":null,\"targetId\":\"t\",\"operationId\":\"o\",\"attributes\":null,\"authentication\":null,\"input\":null}",
+            false,
+            b"-;t;o;{};-;-;",
+        ),
+        (
+            b"{\"targetId\":\"t\",\"operationId\":\"o\",\"input\":null}",
+            true,
+            b"-;t;o;{};-;1 more;",
+        ),
+        // So does an empty table that authenticates, and no other value of it.
+        (
+            b"{\"targetId\":\"t\",\"operationId\":\"o\",\"authentication\":{}}",
+            false,
+            b"-;t;o;{};-;-;",
+        ),
+        (
+            b"{\"targetId\":\"t\",\"operationId\":\"o\",\"authentication\":[],\"input\":{}}",
+            false,
+            b"-;t;o;{};[];{};",
+        ),
+        (
+            b"{\"targetId\":\"t\",\"operationId\":\"o\",\"authentication\":false,\"input\":\"\"}",
+            false,
+            b"-;t;o;{};false;\"\";",
+        ),
+        (
+            b"{\"requestId\":\"\",\"targetId\":\"\",\"operationId\":\"\\u00e9\"}",
+            false,
+            b";;\xc3\xa9;{};-;-;",
+        ),
+    ];
+    for (first, has_more, want) in table {
+        let got = match request_of(alloc, &message_of(alloc, first, has_more)?) {
+            Ok(request) => shown(alloc, request)?,
+            Err(_) => return Err(Fail::from("no request")),
+        };
+        assert_eq!(rt; got.as_slice(), want, "{first:?}");
+    }
+    Ok(())
 }
 
 fn field(name: FieldName) -> Why {
@@ -18,57 +122,150 @@ fn field(name: FieldName) -> Why {
 #[test]
 fn the_first_fault_is_told_with_the_mark(rt: HostRuntime) -> Result<(), Fail> {
     let alloc = rt.alloc();
-    let table: &[(&str, Why, Option<&str>)] = &[
-        ("x", Why::Json(JsonFault::NotJson), None),
+    let table: [(&[u8], bool, Why, &[u8]); 25] = [
+        (b"x", true, Why::Json(JsonFault::NotJson), b"-"),
+        (b"[1.5]", false, Why::Json(JsonFault::NotWhole), b"-"),
         (
-            "{\"requestId\":\"a\",\"input\":1.5}",
+            b"{\"requestId\":\"a\",\"input\":1.5}",
+            true,
             Why::Json(JsonFault::NotWhole),
-            None,
+            b"-",
         ),
-        ("[]", Why::NotTable, None),
-        ("{\"requestId\":1}", field(FieldName::RequestId), None),
+        (b"[]", false, Why::NotTable, b"-"),
+        (b"null", true, Why::NotTable, b"-"),
+        // The mark, alone and with each fault behind it.
         (
-            "{\"requestId\":1,\"targetId\":2}",
+            b"{\"requestId\":1,\"targetId\":\"t\",\"operationId\":\"o\"}",
+            false,
             field(FieldName::RequestId),
-            None,
+            b"-",
         ),
         (
-            "{\"requestId\":\"a\"}",
+            b"{\"requestId\":[],\"operationId\":\"o\"}",
+            false,
+            field(FieldName::RequestId),
+            b"-",
+        ),
+        (
+            b"{\"requestId\":{},\"targetId\":\"t\",\"operationId\":0}",
+            false,
+            field(FieldName::RequestId),
+            b"-",
+        ),
+        (
+            b"{\"requestId\":true,\"targetId\":\"t\",\"operationId\":\"o\",\"attributes\":0}",
+            false,
+            field(FieldName::RequestId),
+            b"-",
+        ),
+        (
+            b"{\"requestId\":0,\"targetId\":\"t\",\"operationId\":\"o\",\"input\":0}",
+            true,
+            field(FieldName::RequestId),
+            b"-",
+        ),
+        // The target.
+        (
+            b"{\"requestId\":\"a\",\"operationId\":\"o\"}",
+            false,
             field(FieldName::TargetId),
-            Some("a"),
+            b"a",
         ),
         (
-            "{\"requestId\":null,\"targetId\":null}",
+            b"{\"requestId\":null,\"targetId\":null,\"operationId\":\"o\"}",
+            false,
             field(FieldName::TargetId),
-            None,
+            b"-",
         ),
-        ("{\"targetId\":\"t\"}", field(FieldName::OperationId), None),
         (
-            "{\"requestId\":\"a\",\"targetId\":\"t\",\"operationId\":[]}",
+            b"{\"requestId\":\"a\",\"targetId\":1}",
+            false,
+            field(FieldName::TargetId),
+            b"a",
+        ),
+        (
+            b"{\"targetId\":{},\"operationId\":\"o\",\"attributes\":[]}",
+            false,
+            field(FieldName::TargetId),
+            b"-",
+        ),
+        (
+            b"{\"requestId\":\"\",\"operationId\":\"o\",\"input\":0}",
+            true,
+            field(FieldName::TargetId),
+            b"",
+        ),
+        // The operation.
+        (
+            b"{\"targetId\":\"t\"}",
+            false,
             field(FieldName::OperationId),
-            Some("a"),
+            b"-",
         ),
         (
-            "{\"attributes\":1,\"targetId\":\"t\",\"operationId\":\"o\"}",
+            b"{\"requestId\":\"a\",\"targetId\":\"t\",\"operationId\":[]}",
+            false,
+            field(FieldName::OperationId),
+            b"a",
+        ),
+        (
+            b"{\"attributes\":\"\",\"targetId\":\"t\",\"operationId\":null}",
+            false,
+            field(FieldName::OperationId),
+            b"-",
+        ),
+        (
+            b"{\"requestId\":\"a\",\"targetId\":\"t\",\"input\":0}",
+            true,
+            field(FieldName::OperationId),
+            b"a",
+        ),
+        // The attributes.
+        (
+            b"{\"requestId\":\"a\",\"attributes\":1,\"targetId\":\"t\",\"operationId\":\"o\"}",
+            false,
             field(FieldName::Attributes),
-            None,
+            b"a",
         ),
         (
-            "{\"attributes\":\"\",\"targetId\":\"t\"}",
-            field(FieldName::OperationId),
-            None,
+            b"{\"attributes\":[],\"targetId\":\"t\",\"operationId\":\"o\",\"input\":0}",
+            true,
+            field(FieldName::Attributes),
+            b"-",
+        ),
+        // Two inputs, whatever the first is.
+        (
+            b"{\"requestId\":\"a\",\"targetId\":\"t\",\"operationId\":\"o\",\"input\":0}",
+            true,
+            Why::TwoInputs,
+            b"a",
+        ),
+        (
+            b"{\"targetId\":\"t\",\"operationId\":\"o\",\"input\":false}",
+            true,
+            Why::TwoInputs,
+            b"-",
+        ),
+        (
+            b"{\"requestId\":null,\"targetId\":\"t\",\"operationId\":\"o\",\"input\":{}}",
+            true,
+            Why::TwoInputs,
+            b"-",
+        ),
+        (
+            b"{\"requestId\":\"-\",\"targetId\":\"t\",\"operationId\":\"o\",\"input\":\"\"}",
+            true,
+            Why::TwoInputs,
+            b"-",
         ),
     ];
-    for (first, why, mark) in table {
-        match request_of(alloc, &one(alloc, first)?) {
+    for (first, has_more, why, mark) in table {
+        match request_of(alloc, &message_of(alloc, first, has_more)?) {
             Ok(_) => return Err(Fail::from("no fault")),
             Err(fault) => {
-                assert_eq!(rt; fault.why, *why, "{first}");
-                match (&fault.request_id, mark) {
-                    (None, None) => {}
-                    (Some(told), Some(mark)) => assert_eq!(rt; told.get(), *mark, "{first}"),
-                    _ => return Err(Fail::from("another mark")),
-                }
+                assert_eq!(rt; fault.why, why, "{first:?}");
+                let told = text_or_dash(alloc, &fault.request_id)?;
+                assert_eq!(rt; told.get(), mark, "{first:?}");
             }
         }
     }
@@ -76,119 +273,203 @@ fn the_first_fault_is_told_with_the_mark(rt: HostRuntime) -> Result<(), Fail> {
 }
 
 #[test]
-fn a_message_without_a_table_is_no_request(rt: HostRuntime) -> Result<(), Fail> {
+fn a_message_without_a_first_text_is_no_request(rt: HostRuntime) -> Result<(), Fail> {
     let alloc = rt.alloc();
     let mut message = Message::empty(alloc);
     assert!(rt;
         matches!(
             request_of(alloc, &message),
             Err(RequestFault {
-                why: Why::NoSegment,
-                ..
+                request_id: None,
+                why: Why::NoSegment
             })
         )
     );
     message.push(Kind::Bytes, b"{}")?;
+    message.push(Kind::Json, b"{}")?;
     assert!(rt;
         matches!(
             request_of(alloc, &message),
             Err(RequestFault {
-                why: Why::FirstIsBytes,
-                ..
-            })
-        )
-    );
-    let mut deep = Vec::new(alloc);
-    for _ in 0..65 {
-        deep.push(b'[')?;
-    }
-    for _ in 0..65 {
-        deep.push(b']')?;
-    }
-    let mut nested = Message::empty(alloc);
-    nested.push(Kind::Json, &deep)?;
-    assert!(rt;
-        matches!(
-            request_of(alloc, &nested),
-            Err(RequestFault {
-                why: Why::Json(JsonFault::TooDeep),
-                ..
+                request_id: None,
+                why: Why::FirstIsBytes
             })
         )
     );
     Ok(())
 }
 
-#[test]
-fn an_input_stands_in_one_place(rt: HostRuntime) -> Result<(), Fail> {
-    let alloc = rt.alloc();
-    let both = "{\"requestId\":\"a\",\"targetId\":\"t\",\"operationId\":\"o\",\"input\":0}";
-    let mut message = one(alloc, both)?;
-    match request_of(alloc, &message) {
-        Ok(request) => assert!(rt; matches!(request.input, Body::Value(Json::Whole(_)))),
-        Err(_) => return Err(Fail::from("no request")),
+// A request whose input nests this often, round a number that isn't whole where asked.
+fn nested(alloc: Global, times: u8, has_fraction: bool) -> Result<Message, AllocError> {
+    let mut first = Vec::new(alloc);
+    first.extend_from_slice(b"{\"targetId\":\"t\",\"operationId\":\"o\",\"input\":")?;
+    for _ in 0..times {
+        first.push(b'[')?;
     }
-    message.push(Kind::Bytes, b"b")?;
-    match request_of(alloc, &message) {
-        Err(fault) => {
-            assert_eq!(rt; fault.why, Why::TwoInputs);
-            assert_eq!(rt; fault.request_id.ok_or("a mark")?.get(), "a");
+    if has_fraction {
+        first.extend_from_slice(b"1.5")?;
+    }
+    for _ in 0..times {
+        first.push(b']')?;
+    }
+    first.push(b'}')?;
+    message_of(alloc, &first, false)
+}
+
+#[test]
+fn a_first_segment_nests_at_most_64_deep(rt: HostRuntime) -> Result<(), Fail> {
+    let alloc = rt.alloc();
+    assert!(rt; request_of(alloc, &nested(alloc, 63, false)?).is_ok());
+    for (times, has_fraction, why) in [
+        (64, false, JsonFault::TooDeep),
+        (64, true, JsonFault::TooDeep),
+        (63, true, JsonFault::NotWhole),
+        (127, true, JsonFault::NotJson),
+    ] {
+        match request_of(alloc, &nested(alloc, times, has_fraction)?) {
+            Ok(_) => return Err(Fail::from("no fault")),
+            Err(fault) => assert_eq!(rt; fault.why, Why::Json(why), "{times}"),
         }
-        Ok(_) => return Err(Fail::from("two inputs")),
+    }
+    Ok(())
+}
+
+// A response with this message in its attributes, where there is one.
+fn response(
+    alloc: Global,
+    mark: Option<&str>,
+    status: Status,
+    message: Option<&str>,
+    output: Body,
+) -> Result<Response, AllocError> {
+    let request_id = match mark {
+        Some(mark) => Some(Str::of(alloc, mark)?),
+        None => None,
+    };
+    let mut attributes = JsonMap::empty(alloc);
+    if let Some(message) = message {
+        let message = Json::Text(Str::of(alloc, message)?);
+        attributes.put(Str::of(alloc, "message")?, message)?;
+    }
+    Ok(Response {
+        request_id,
+        status,
+        attributes,
+        output,
+    })
+}
+
+#[test]
+fn each_response_has_its_first_segment(rt: HostRuntime) -> Result<(), Fail> {
+    let alloc = rt.alloc();
+    let table: [(Option<&str>, Option<&str>, Option<&[u8]>, &[u8]); 6] = [
+        (None, None, None, b"{\"status\":\"0.DOIP/Status.001\"}"),
+        (
+            Some("a\""),
+            None,
+            None,
+            b"{\"requestId\":\"a\\\"\",\"status\":\"0.DOIP/Status.001\"}",
+        ),
+        (
+            None,
+            Some("m\n"),
+            None,
+            b"{\"attributes\":{\"message\":\"m\\n\"},\"status\":\"0.DOIP/Status.001\"}",
+        ),
+        (
+            None,
+            None,
+            Some(b"{\"b\":1,\"a\":[ ]}"),
+            b"{\"output\":{\"a\":[],\"b\":1},\"status\":\"0.DOIP/Status.001\"}",
+        ),
+        (
+            None,
+            None,
+            Some(b"null"),
+            b"{\"output\":null,\"status\":\"0.DOIP/Status.001\"}",
+        ),
+        (
+            Some(""),
+            Some("m"),
+            Some(b"0"),
+            b"{\"attributes\":{\"message\":\"m\"},\"output\":0,\"requestId\":\"\",\"status\":\"0.DOIP/Status.001\"}",
+        ),
+    ];
+    for (mark, message, output, want) in table {
+        let output = match output {
+            Some(bytes) => match read(alloc, bytes, 2) {
+                Ok(value) => Body::Value(value),
+                Err(_) => return Err(Fail::from("no value")),
+            },
+            None => Body::Nothing,
+        };
+        let made = response_message(
+            alloc,
+            &response(alloc, mark, Status::Done, message, output)?,
+        )?;
+        assert_eq!(rt; made.count(), 1);
+        assert!(rt; matches!(made.kind(0), Kind::Json));
+        assert_eq!(rt; made.bytes(0), want);
     }
     Ok(())
 }
 
 #[test]
-fn a_null_input_leaves_the_parts(rt: HostRuntime) -> Result<(), Fail> {
-    let alloc = rt.alloc();
-    let null = "{\"targetId\":\"t\",\"operationId\":\"o\",\"input\":null,\"authentication\":{}}";
-    let mut message = one(alloc, null)?;
-    message.push(Kind::Bytes, b"b")?;
-    match request_of(alloc, &message) {
-        Ok(request) => {
-            assert!(rt; request.authentication.is_none());
-            match &request.input {
-                Body::Parts(parts) => {
-                    assert_eq!(rt; parts.count(), 1);
-                    assert_eq!(rt; parts.bytes(0), b"b".as_slice());
-                }
-                _ => return Err(Fail::from("no parts")),
-            }
-        }
-        Err(_) => return Err(Fail::from("no request")),
-    }
-    Ok(())
-}
-
-#[test]
-fn a_response_has_its_keys_in_order_and_its_parts_behind(rt: HostRuntime) -> Result<(), Fail> {
+fn parts_stand_behind_the_first_segment(rt: HostRuntime) -> Result<(), Fail> {
     let alloc = rt.alloc();
     let mut parts = Message::empty(alloc);
     parts.push(Kind::Bytes, b"")?;
-    let mut attributes = JsonMap::empty(alloc);
-    attributes.put(Str::of(alloc, "message")?, Json::Text(Str::of(alloc, "m")?))?;
-    let response = Response {
-        request_id: Some(Str::of(alloc, "a\"")?),
-        status: Status::Invalid,
-        attributes,
-        output: Body::Parts(parts),
-    };
-    let message = response_message(alloc, &response)?;
-    assert_eq!(rt; message.count(), 2);
-    let first =
-        b"{\"attributes\":{\"message\":\"m\"},\"requestId\":\"a\\\"\",\"status\":\"0.DOIP/Status.101\"}";
-    assert_eq!(rt; message.bytes(0), first.as_slice());
-    let done = Response {
-        request_id: None,
-        status: Status::Done,
-        attributes: JsonMap::empty(alloc),
-        output: Body::Value(Json::Truth(true)),
-    };
-    let message = response_message(alloc, &done)?;
+    parts.push(Kind::Json, b"[ 1 ]")?;
+    let answered = response(alloc, Some("a"), Status::Done, None, Body::Parts(parts))?;
+    let message = response_message(alloc, &answered)?;
+    assert_eq!(rt; message.count(), 3);
     assert_eq!(rt;
         message.bytes(0),
-        b"{\"output\":true,\"status\":\"0.DOIP/Status.001\"}".as_slice()
+        b"{\"requestId\":\"a\",\"status\":\"0.DOIP/Status.001\"}".as_slice()
+    );
+    assert!(rt; matches!(message.kind(1), Kind::Bytes));
+    assert_eq!(rt; message.bytes(1), b"".as_slice());
+    assert!(rt; matches!(message.kind(2), Kind::Json));
+    assert_eq!(rt; message.bytes(2), b"[ 1 ]".as_slice());
+    Ok(())
+}
+
+#[test]
+fn each_status_has_its_identifier(rt: HostRuntime) -> Result<(), Fail> {
+    let table = [
+        (Status::Done, "0.DOIP/Status.001"),
+        (Status::Invalid, "0.DOIP/Status.101"),
+        (Status::NotAuthenticated, "0.DOIP/Status.102"),
+        (Status::NotPermitted, "0.DOIP/Status.103"),
+        (Status::Unknown, "0.DOIP/Status.104"),
+        (Status::InUse, "0.DOIP/Status.105"),
+        (Status::Declined, "0.DOIP/Status.200"),
+        (Status::Other500, "0.DOIP/Status.500"),
+        (Status::Foreign(Str::of(rt.alloc(), "s")?), "s"),
+    ];
+    for (status, want) in &table {
+        assert_eq!(rt; status.text(), *want);
+    }
+    Ok(())
+}
+
+#[test]
+fn each_fixed_text_is_what_its_refusal_is_written_as(rt: HostRuntime) -> Result<(), Fail> {
+    let alloc = rt.alloc();
+    let table = [
+        (Status::Other500, "want of memory", MEMORY_TEXT),
+        (Status::Other500, "disk fault", DISK_TEXT),
+        (Status::Other500, "store closed", CLOSED_TEXT),
+        (Status::Invalid, "framing fault", FRAMING_TEXT),
+    ];
+    for (status, message, want) in table {
+        let refused = response(alloc, None, status, Some(message), Body::Nothing)?;
+        let written = encode(alloc, &response_message(alloc, &refused)?)?;
+        assert_eq!(rt; written.get(), want);
+    }
+    assert_eq!(rt;
+        MEMORY_TEXT,
+        b"{\"attributes\":{\"message\":\"want of memory\"},\"status\":\"0.DOIP/Status.500\"}\n#\n#\n".as_slice()
     );
     Ok(())
 }

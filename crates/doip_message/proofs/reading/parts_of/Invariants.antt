@@ -1,4 +1,4 @@
-use Rattle.std.proofs.Common.{◌≡◌, ◌<◌, take, drop}
+use Rattle.std.proofs.Common.{◌≡◌, take, drop}
 use Rattle.doip_message.proofs.reading.parts_of.Given as goal
 
 -- the segments behind the first are copied up to here

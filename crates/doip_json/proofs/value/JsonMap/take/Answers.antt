@@ -1,4 +1,4 @@
-use Rattle.std.proofs.Common.{◌≡◌, ◌≢◌, List, ℕ, Some, sym, subst, ap, ◌∙◌, slice_set}
+use Rattle.std.proofs.Common.{Some, sym, subst, ap, ◌∙◌}
 use Rattle.std.specs.BTreeMap.{insert_entry}
 use Rattle.doip_json.specs.Value.{table, entries_from, null}
 use Rattle.doip_json.specs.Sound.{IsSound}
