@@ -1,15 +1,12 @@
 -- Histories of the one-thread repository. This project's own.
-use Rattle.std.specs.Prelude.{◌≡◌, ◌≤◌, ℕ, List, [], ◌∷◌, map, filter, Bool, ◌&&◌, nat_eq, flat_map, None, codes}
+use Rattle.std.specs.Prelude.{◌≤◌, ℕ, List, [], ◌∷◌, map, filter, Bool, ◌&&◌, nat_eq, flat_map, None, codes}
 use Rattle.doip_segment.specs.Segments.{Segment}
 use Rattle.doip_message.specs.declared.response.Status.TheVariants.{Other500}
 use Rattle.doip_message.specs.Reply.{Replied, refusal, reply_text}
 use Rattle.repo_step.specs.declared.config.Config.{Config}
+use Rattle.repo_step.specs.declared.outcome.Outcome.{Outcome}
+use Rattle.repo_step.specs.declared.outcome.Outcome.TheVariants.{Done, NoMemory}
 use Rattle.repo_step.specs.Step.{step}
-
--- how a turn ended: with the reply of the step, or for want of memory
-pub data Outcome : Type 0 where
-  Done : Outcome
-  NoMemory : Outcome
 
 -- one turn: the lane and its session that asked, the message, how it ended, and when, by the disk's clock (0 without a disk)
 pub record Entry : Type 0 where

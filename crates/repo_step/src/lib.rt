@@ -6,10 +6,14 @@
 
 mod config;
 mod hello;
+mod laws;
+mod outcome;
 mod refusal;
 mod step;
 #[cfg(test)]
 mod tests;
 
 pub use config::Config;
+pub use laws::no_reply_is_a_fixed_text;
+pub use outcome::Outcome;
 pub use step::{Planned, answer};

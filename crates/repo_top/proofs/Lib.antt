@@ -1,3 +1,5 @@
+pub mod Numbers
+pub mod CommandLemmas
 pub mod Replies
 pub mod Framings
 pub mod ServingLemmas

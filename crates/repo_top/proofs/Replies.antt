@@ -1,7 +1,6 @@
 -- The replies of the step have no parts.
-use Rattle.std.proofs.Common.{◌≡◌, ◌≤◌, ℕ, List, [], ◌∷◌, Bool, true, false, not, Option, None, Some, Result, Ok, Err, refl, ap, ◌∙◌, sym, subst, arith}
+use Rattle.std.proofs.Common.{◌≡◌, List, [], ◌∷◌, Bool, true, false, Result, Ok, Err, refl, ap, ◌∙◌, sym, subst, arith}
 use Rattle.std.specs.List.{AllByRecursion}
-use Rattle.std.specs.Option.{is_some}
 use Rattle.doip_segment.specs.Segments.{Segment}
 use Rattle.doip_message.specs.declared.request.RequestFault.{RequestFault}
 use Rattle.doip_message.specs.Asked.{Asked}

@@ -1,5 +1,5 @@
 -- A session on a link that a host handed out.
-use Rattle.std.proofs.Common.{◌≡◌, ◌≤◌, ◌<◌, ◌+◌, ◌-◌, ◌^◌, ◌⊎◌, inl, inr, ℕ, min, List, Option, None, Some, [], ◌∷◌, ◌++◌, Bool, true, false, ◌&&◌, nat_eq, filter, refl, sym, ap, ◌∙◌, subst, arith}
+use Rattle.std.proofs.Common.{◌≡◌, ℕ, List, Option, None, Some, [], ◌∷◌, ◌++◌, true, ◌&&◌, nat_eq, refl, sym, ap, subst, arith}
 use Rattle.std.specs.List.{AllByRecursion}
 use Rattle.std.specs.Io.KnownBytes.{Appends, Consumes, IsAtEnd}
 use Rattle.link_core.specs.Causes.{Rose}
@@ -11,9 +11,9 @@ use Rattle.repo_step.specs.History.{Entry, MomentsFrom, is_of, entries_of}
 use Rattle.repo_top.specs.declared.outcome.Note.{Note}
 use Rattle.repo_top.specs.declared.outcome.SessionEnd.{SessionEnd}
 use Rattle.repo_top.specs.declared.outcome.SessionEnd.TheVariants.{Ended, Cut, Framing, ReadFault, WriteFault}
-use Rattle.repo_top.specs.Session.{EndsSo, IsPast}
+use Rattle.repo_top.specs.Session.{EndsSo}
 use Rattle.repo_top.specs.Serving.{IsOwn, Served}
-use Rattle.repo_top.specs.Run.{IsSetup, RanSession, AnswersLink, AnswersSession, ServesLink, EndsLink, HasStatus, status_at}
+use Rattle.repo_top.specs.Run.{IsSetup, RanSession, AnswersLink, AnswersSession, ServesLink, EndsLink, HasPast, IsStatus, status_at}
 
 -- what was written from nothing on
 appended : (old new : Option (List ℕ)) (bs : List ℕ) → old ≡ Some [] → Appends old new bs → new ≡ Some bs
@@ -59,17 +59,15 @@ end_as limits config entries messages rest gave wrote P Q before now WriteFault 
 at_end_is : (new : Option (List ℕ)) (rest : List ℕ) → new ≡ Some rest → IsAtEnd new → rest ≡ []
 at_end_is new rest is h = subst IsAtEnd is h
 
-ran : {T : Type 0} (taken left written : T → Option (List ℕ)) (faults : T → ℕ) (config : Config) (limits : Limits) (input : List ℕ) (old link : T) (end : SessionEnd) → IsNew left taken written input old → faults old ≡ 0
-    → Served config (taken old) (taken link) (left old) (left link) (written old) (written link) (faults old) (faults link) limits end → RanSession taken left written faults config limits input link end
-ran taken left written faults config limits input old link end new zero s =
+ran : {T : Type 0} (taken left written : T → Option (List ℕ)) (faults : T → ℕ) (config : Config) (limits : Limits) (input : List ℕ) (past : List Entry) (old link : T) (end : SessionEnd) → IsNew left taken written input old → faults old ≡ 0
+    → Served config past (taken old) (taken link) (left old) (left link) (written old) (written link) (faults old) (faults link) limits end → RanSession taken left written faults config limits input past link end
+ran taken left written faults config limits input past old link end new zero s =
     let behind : Left input s.gave (left link) = consumed (left old) (left link) input s.gave new.holds s.left in
-    let same : entries_of 0 0 s.entries ≡ s.entries = all_own s.entries s.own in
+    let same : entries_of 0 0 past ≡ past = all_own past s.own in
     record {
-      past = s.entries;
       read = s.gave;
       unread = behind.rest;
       wrote = s.wrote;
-      is_past = record { legal = moments 0 s.entries refl s.own; no_other = same };
       taken_is = appended (taken old) (taken link) s.gave new.unread s.taken;
       left_is = behind.is;
       written_is = appended (written old) (written link) s.wrote new.unwritten s.written;
@@ -79,28 +77,36 @@ ran taken left written faults config limits input old link end new zero s =
         rest = s.rest;
         framed = s.framed;
         ends = subst (λ (es : List Entry). EndsSo limits config es s.messages s.rest s.gave s.wrote (behind.rest ≡ []) 0 (faults link) end) (sym same)
-            (subst (λ (b : ℕ). EndsSo limits config s.entries s.messages s.rest s.gave s.wrote (behind.rest ≡ []) b (faults link) end) zero
-            (end_as limits config s.entries s.messages s.rest s.gave s.wrote (IsAtEnd (left link)) (behind.rest ≡ []) (faults old) (faults link) end
+            (subst (λ (b : ℕ). EndsSo limits config past s.messages s.rest s.gave s.wrote (behind.rest ≡ []) b (faults link) end) zero
+            (end_as limits config past s.messages s.rest s.gave s.wrote (IsAtEnd (left link)) (behind.rest ≡ []) (faults old) (faults link) end
             (at_end_is (left link) behind.rest behind.is) s.ends));
       };
     }
 
-pub answers : {T : Type 0} (taken left written : T → Option (List ℕ)) (faults : T → ℕ) (config : Config) (limits : Limits) (input : List ℕ) (old : T) (link : Option T) (end : Option SessionEnd) → IsNew left taken written input old
-    → faults old ≡ 0 → ServesLink taken left written faults config limits old link end → AnswersLink taken left written faults config limits input link end
-answers taken left written faults config limits input old (Some link) (Some end) new zero s = ran taken left written faults config limits input old link end new zero s
-answers taken left written faults config limits input old (Some link) None new zero s = absurd s
-answers taken left written faults config limits input old None (Some end) new zero s = absurd s
-answers taken left written faults config limits input old None None new zero s = absurd s
+pub answers : {T : Type 0} (taken left written : T → Option (List ℕ)) (faults : T → ℕ) (config : Config) (limits : Limits) (input : List ℕ) (past : List Entry) (old : T) (link : Option T) (end : Option SessionEnd) → IsNew left taken written input old
+    → faults old ≡ 0 → ServesLink taken left written faults config limits old past link end → AnswersLink taken left written faults config limits input past link end
+answers taken left written faults config limits input past old (Some link) (Some end) new zero s = ran taken left written faults config limits input past old link end new zero s
+answers taken left written faults config limits input past old (Some link) None new zero s = absurd s
+answers taken left written faults config limits input past old None (Some end) new zero s = absurd s
+answers taken left written faults config limits input past old None None new zero s = absurd s
 
-pub named : {T : Type 0} (taken left written : T → Option (List ℕ)) (faults : T → ℕ) (config : Config) (limits : Limits) (words : List (List ℕ)) (input : List ℕ) (link : Option T) (end : Option SessionEnd) → IsSetup words config limits
-    → AnswersLink taken left written faults config limits input link end → AnswersSession taken left written faults words input link end
-named taken left written faults config limits words input (Some link) (Some end) setup a = (config, limits, setup, a)
-named taken left written faults config limits words input (Some link) None setup a = absurd a
-named taken left written faults config limits words input None (Some end) setup a = absurd a
-named taken left written faults config limits words input None None setup a = tt
+-- the history of a session on a link
+pub has_past : {T : Type 0} (taken left written : T → Option (List ℕ)) (faults : T → ℕ) (config : Config) (limits : Limits) (old : T) (past : List Entry) (link : Option T) (end : Option SessionEnd)
+    → ServesLink taken left written faults config limits old past link end → HasPast link past
+has_past taken left written faults config limits old past (Some link) (Some end) s = record { legal = moments 0 past refl s.own; no_other = all_own past s.own }
+has_past taken left written faults config limits old past (Some link) None s = absurd s
+has_past taken left written faults config limits old past None (Some end) s = absurd s
+has_past taken left written faults config limits old past None None s = absurd s
+
+pub named : {T : Type 0} (taken left written : T → Option (List ℕ)) (faults : T → ℕ) (config : Config) (limits : Limits) (words : List (List ℕ)) (input : List ℕ) (past : List Entry) (link : Option T) (end : Option SessionEnd) → IsSetup words config limits
+    → AnswersLink taken left written faults config limits input past link end → AnswersSession taken left written faults words input past link end
+named taken left written faults config limits words input past (Some link) (Some end) setup a = (config, limits, setup, a)
+named taken left written faults config limits words input past (Some link) None setup a = absurd a
+named taken left written faults config limits words input past None (Some end) setup a = absurd a
+named taken left written faults config limits words input past None None setup a = tt
 
 pub has_status : {T : Type 0} (faults : T → ℕ) (before now status : ℕ) (note : Note) (old : T) (link : Option T) (end : Option SessionEnd) → faults old ≡ 0 → EndsLink faults old status note link end
-    → HasStatus faults before now status note link end
+    → IsStatus faults before now status note link end
 has_status faults before now status note old (Some link) (Some end) zero e = (e.0, e.1, λ seven. subst (λ (b : ℕ). Rose b (faults link)) zero (e.2 seven))
 has_status faults before now status note old (Some link) None zero e = absurd e
 has_status faults before now status note old None (Some end) zero e = absurd e

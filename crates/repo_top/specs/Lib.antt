@@ -1,3 +1,6 @@
+pub mod Command
+pub mod Turns
 pub mod Session
-pub mod Serving
 pub mod Run
+pub mod Taking
+pub mod Serving

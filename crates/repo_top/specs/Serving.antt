@@ -1,5 +1,5 @@
 -- What one session keeps as it goes on. The loop of a session is stated by these.
-use Rattle.std.specs.Prelude.{◌≡◌, ◌≤◌, ℕ, List, Option, [], ◌∷◌, ◌++◌, length}
+use Rattle.std.specs.Prelude.{◌≡◌, ℕ, List, Option, [], ◌∷◌, ◌++◌, length}
 use Rattle.std.specs.List.{AllByRecursion}
 use Rattle.std.specs.Io.KnownBytes.{Appends, Consumes, IsAtEnd}
 use Rattle.doip_segment.specs.declared.outcome.Limits.{Limits}
@@ -23,8 +23,7 @@ pub record IsOwn (entry : Entry) : Type 0 where
   pub moment : entry.moment ≡ 0
 
 -- The session has answered the messages of these entries, and nothing else of it is in the decoder.
-pub record HasServed (config : Config) (held : List ℕ) (taken_old taken_new left_old left_new written_old written_new : Option (List ℕ)) (decoder_old decoder : Decoding) : Type 0 where
-  pub entries : List Entry
+pub record HasServed (config : Config) (entries : List Entry) (held : List ℕ) (taken_old taken_new left_old left_new written_old written_new : Option (List ℕ)) (decoder_old decoder : Decoding) : Type 0 where
   pub front : List ℕ
   pub own : AllByRecursion IsOwn entries
   pub taken : Appends taken_old taken_new (front ++ held)
@@ -37,8 +36,7 @@ pub record HasServed (config : Config) (held : List ℕ) (taken_old taken_new le
 
 -- What a session leaves, whatever its link tells: its own entries, the bytes that the link gave and those that it was written,
 -- and how these bytes frame the entries' messages.
-pub record Served (config : Config) (taken_old taken_new left_old left_new written_old written_new : Option (List ℕ)) (before now : ℕ) (limits : Limits) (end : SessionEnd) : Type 0 where
-  pub entries : List Entry
+pub record Served (config : Config) (entries : List Entry) (taken_old taken_new left_old left_new written_old written_new : Option (List ℕ)) (before now : ℕ) (limits : Limits) (end : SessionEnd) : Type 0 where
   pub messages : List (List Segment)
   pub rest : List ℕ
   pub gave : List ℕ

@@ -1,5 +1,5 @@
 -- One session of a link: what was read, what was answered, and how it ended. This project's own.
-use Rattle.std.specs.Prelude.{◌≡◌, ◌≤◌, ◌+◌, ◌-◌, ◌^◌, ◌⊎◌, ℕ, min, List, [], ◌∷◌, ◌++◌, length, take, None, codes}
+use Rattle.std.specs.Prelude.{◌≡◌, ◌+◌, ◌-◌, ◌^◌, ◌⊎◌, ℕ, min, List, [], ◌∷◌, ◌++◌, length, take, None, codes}
 use Rattle.std.specs.List.{AllByRecursion}
 use Rattle.link_core.specs.Causes.{Rose}
 use Rattle.doip_segment.specs.declared.outcome.Limits.{Limits}

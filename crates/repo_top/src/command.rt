@@ -1,6 +1,7 @@
 //! The words as a command.
-ghost use Rattle.std.specs.Prelude.{◌≡◌, ◌≤◌, IfSome, Some, slice_get};
-ghost use Rattle.std.specs.Option.{ForSome};
+ghost use Rattle.std.specs.Prelude.{◌≡◌, ◌≤◌, ◌↔◌, ℕ, IfSome, None, codes, length, get_or, decimal, IsTrue, IsFalse, unwrap_or};
+ghost use Rattle.repo_top.specs.Command.{AreWordsOf, IsCommand, IsService, prefix_of, address_of, port_of, request_limit};
+ghost use Rattle.repo_top.specs.Taking.{HasTaken, Refuses, Takes, command_in};
 
 use crate::Words;
 
@@ -28,12 +29,13 @@ pub(crate) struct Answer<'a> {
     pub address: Option<&'a str>,
     pub port: Option<u16>,
     pub request: Option<u32>,
-    ghost limited: { ForSome request (λ n. (64 ≤ n) × (n ≤ 16777216)) },
 }
 
 impl<'a> Answer<'a> {
     /// The address that Hello tells.
-    pub fn address(&self) -> &'a str {
+    pub fn address(&self) -> &'a str
+        ensures { result.now ≡ address_of (command_in self.now) }
+    {
         match self.address {
             Some(address) => address,
             None => ADDRESS,
@@ -41,7 +43,9 @@ impl<'a> Answer<'a> {
     }
 
     /// The port that Hello tells.
-    pub fn port(&self) -> u16 {
+    pub fn port(&self) -> u16
+        ensures { result ≡ port_of (command_in self.now) }
+    {
         match self.port {
             Some(port) => port,
             None => PORT,
@@ -50,8 +54,7 @@ impl<'a> Answer<'a> {
 
     /// The most bytes that a request has.
     pub fn request(&self) -> u32
-        ensures least { 64 ≤ result }
-        ensures most { result ≤ 16777216 }
+        ensures { result ≡ request_limit (command_in self.now) }
     {
         match self.request {
             Some(request) => request,
@@ -61,7 +64,9 @@ impl<'a> Answer<'a> {
 }
 
 /// The text before the first `/`, or all of it.
-pub(crate) fn prefix_of(service: &str) -> &str {
+pub(crate) fn prefix_of(service: &str) -> &str
+    ensures { result.now ≡ prefix_of service.now }
+{
     match service.split_once('/') {
         Some((prefix, _)) => prefix,
         None => service,
@@ -69,64 +74,132 @@ pub(crate) fn prefix_of(service: &str) -> &str {
 }
 
 // Whether a service can have this identifier.
-fn is_service(text: &str) -> bool {
-    !text.is_empty() && text.len() <= LONGEST_NAME && prefix_of(text).len() <= LONGEST_PREFIX
+fn is_service(text: &str) -> bool
+    ensures { IsTrue result ↔ IsService text.now }
+{
+    if text.is_empty() || text.len() > LONGEST_NAME {
+        return false;
+    }
+    prefix_of(text).len() <= LONGEST_PREFIX
+}
+
+// Whether the text begins with a digit from 1.
+fn begins_number(text: &str) -> bool
+    ensures { IsTrue result ↔ ((49 ≤ get_or text.now 0 0) × (get_or text.now 0 0 ≤ 57)) }
+{
+    matches!(text.as_bytes().first(), Some(b'1'..=b'9'))
 }
 
 // The number from `low` to `high` that the text spells in decimal digits, with no sign and no leading zero.
 fn number_of(text: &str, low: u32, high: u32) -> Option<u32>
-    ensures within { IfSome result (λ n. (low ≤ n) × (n ≤ high)) }
+    requires { 1 ≤ low }
+    ensures some { IfSome result (λ n. (decimal n ≡ text.now) × (low ≤ n) × (n ≤ high)) }
+    ensures none { result ≡ None → (n : ℕ) → decimal n ≡ text.now → low ≤ n → n ≤ high → ⊥ }
 {
-    match text.as_bytes().first() {
-        Some(b'1'..=b'9') => {}
-        _ => return None,
+    if !begins_number(text) {
+        return None;
     }
     match text.parse::<u32>() {
-        Ok(number) => {
-            if low <= number && number <= high {
-                Some(number)
-            } else {
-                None
-            }
-        }
-        Err(_) => None,
+        Ok(number) if low <= number && number <= high => Some(number),
+        _ => None,
     }
 }
 
 // The port that the text spells.
-fn port_of(text: &str) -> Option<u16> {
+fn port_of(text: &str) -> Option<u16>
+    ensures some { IfSome result (λ n. (decimal n ≡ text.now) × (1 ≤ n) × (n ≤ 65535)) }
+    ensures none { result ≡ None → (n : ℕ) → decimal n ≡ text.now → 1 ≤ n → n ≤ 65535 → ⊥ }
+{
     match number_of(text, 1, 65_535) {
         Some(port) => Some(port as u16),
         None => None,
     }
 }
 
-// Adds the option to the command. Whether it is known, not there yet, and its value in form.
-fn take_option<'a>(answer: &mut Answer<'a>, name: &str, value: &'a str) -> bool
-    ensures { answer.new.service.now ≡ answer.old.service.now }
+// Adds the address to the command, where it has none. Whether it did.
+fn take_address<'a>(answer: &mut Answer<'a>, value: &'a str) -> bool
+    ensures taken { IsTrue result → Takes (command_in answer.old) (command_in answer.new) (codes "--address") value.now }
+    ensures refused { IsFalse result → Refuses (command_in answer.old) (codes "--address") value.now }
 {
-    if name == "--address" && answer.address.is_none() {
-        answer.address = Some(value);
-        return true;
+    if answer.address.is_some() {
+        return false;
     }
-    if name == "--port" && answer.port.is_none() {
-        answer.port = port_of(value);
-        return answer.port.is_some();
-    }
-    if name == "--request" && answer.request.is_none() {
-        answer.request = number_of(value, LEAST_REQUEST, GREATEST_REQUEST);
-        return answer.request.is_some();
-    }
-    false
+    answer.address = Some(value);
+    true
 }
 
-/// The command that the words are, `None` where they are none: `answer SERVICE`, and then pairs of an option and its
-/// value, each option at most once.
-pub(crate) fn command_of(words: &Words) -> Option<Answer<'_>>
-    ensures { IfSome result (λ a. slice_get words.now 1 ≡ Some a.service.now) }
+// Adds the port to the command, where it has none and the value is one. Whether it did.
+fn take_port(answer: &mut Answer<'_>, value: &str) -> bool
+    ensures taken { IsTrue result → Takes (command_in answer.old) (command_in answer.new) (codes "--port") value.now }
+    ensures refused { IsFalse result → Refuses (command_in answer.old) (codes "--port") value.now }
+{
+    if answer.port.is_some() {
+        return false;
+    }
+    let Some(port) = port_of(value) else {
+        return false;
+    };
+    answer.port = Some(port);
+    true
+}
+
+// Adds the limit on requests to the command, where it has none and the value is one. Whether it did.
+fn take_request(answer: &mut Answer<'_>, value: &str) -> bool
+    ensures taken { IsTrue result → Takes (command_in answer.old) (command_in answer.new) (codes "--request") value.now }
+    ensures refused { IsFalse result → Refuses (command_in answer.old) (codes "--request") value.now }
+{
+    if answer.request.is_some() {
+        return false;
+    }
+    let Some(request) = number_of(value, LEAST_REQUEST, GREATEST_REQUEST) else {
+        return false;
+    };
+    answer.request = Some(request);
+    true
+}
+
+// Adds the option to the command. Whether it is known, not there yet, and its value in form.
+fn take_option<'a>(answer: &mut Answer<'a>, name: &str, value: &'a str) -> bool
+    ensures taken { IsTrue result → Takes (command_in answer.old) (command_in answer.new) name.now value.now }
+    ensures refused { IsFalse result → Refuses (command_in answer.old) name.now value.now }
+{
+    match name {
+        "--address" => take_address(answer, value),
+        "--port" => take_port(answer, value),
+        "--request" => take_request(answer, value),
+        _ => false,
+    }
+}
+
+// Adds the options behind the service to the command. Whether all could be.
+fn take_options<'a>(answer: &mut Answer<'a>, words: &'a Words) -> bool
+    requires some { 2 ≤ length words.now }
+    requires start { HasTaken words.now 2 (command_in answer.old) }
+    ensures service { IsTrue result → answer.new.service.now ≡ answer.old.service.now }
+    ensures taken { IsTrue result → HasTaken words.now (length words.now) (command_in answer.new) }
+    ensures refused { IsFalse result → IsCommand words.now → ⊥ }
 {
     let count = words.len();
-    if count < 2 || words.item(0).get() != "answer" {
+    let mut at = 2;
+    while at < count {
+        if count - at < 2 {
+            return false;
+        }
+        if !take_option(answer, words.item(at).get(), words.item(at + 1).get()) {
+            return false;
+        }
+        at += 2;
+    }
+    true
+}
+
+/// The command that the words are, `None` exactly where they are none: `answer SERVICE`, and then pairs of an option and
+/// its value, each option at most once.
+pub(crate) fn command_of(words: &Words) -> Option<Answer<'_>>
+    ensures some { IfSome result (λ a. AreWordsOf (command_in a) words.now) }
+    ensures none { result ≡ None → IsCommand words.now → ⊥ }
+{
+    if words.len() < 2 || words.item(0).get() != "answer" {
         return None;
     }
     let service = words.item(1).get();
@@ -139,15 +212,9 @@ pub(crate) fn command_of(words: &Words) -> Option<Answer<'_>>
         port: None,
         request: None,
     };
-    let mut at = 2;
-    while at < count {
-        if count - at < 2 {
-            return None;
-        }
-        if !take_option(&mut answer, words.item(at).get(), words.item(at + 1).get()) {
-            return None;
-        }
-        at += 2;
+    if take_options(&mut answer, words) {
+        Some(answer)
+    } else {
+        None
     }
-    Some(answer)
 }

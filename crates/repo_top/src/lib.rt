@@ -6,6 +6,7 @@
 
 mod command;
 mod outcome;
+mod past;
 mod run;
 mod session;
 #[cfg(test)]
@@ -13,5 +14,6 @@ mod tests;
 mod words;
 
 pub use outcome::{Note, Ran, SessionEnd};
+pub use past::Past;
 pub use run::run_plain;
 pub use words::Words;

@@ -1,4 +1,5 @@
 //! What a run answers.
+use crate::Past;
 use doip_segment::Reason;
 use link_core::Host;
 
@@ -46,4 +47,6 @@ where
     pub link: Option<H::Link>,
     /// The end of the session, where there was one.
     pub end: Option<SessionEnd>,
+    /// The history of the run: that of its session, and empty without one.
+    pub past: Past,
 }

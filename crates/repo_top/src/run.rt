@@ -1,12 +1,14 @@
 //! The top call.
-ghost use Rattle.std.specs.Prelude.{◌≡◌, ◌≤◌, ◌∷◌, [], List, ℕ, min, IfOk, Some, None, slice_get};
-ghost use Rattle.link_core.specs.Causes.{Counts};
+ghost use Rattle.std.specs.Prelude.{◌≡◌, ◌≤◌, ◌⊎◌, ◌∷◌, [], List, ℕ, min, IfOk, Some, None};
+ghost use Rattle.link_core.specs.Causes.{Counts, Rose};
 ghost use Rattle.doip_segment.specs.Decoding.{Took};
-ghost use Rattle.repo_top.specs.Run.{AnswersLink, AnswersSession, ServesLink, EndsLink, LinkCounted, CalledOnce, HasStatus, status_at, note_at};
+ghost use Rattle.repo_top.specs.Command.{AreWordsOf, IsCommand, IsService, prefix_of, address_of, port_of, request_limit};
+ghost use Rattle.repo_top.specs.Taking.{command_in};
+ghost use Rattle.repo_top.specs.Run.{AnswersLink, AnswersSession, ServesLink, EndsLink, LinkCounted, CalledOnce, HasPast, HasStatus, IsFaultless, IsSetup, IsStatus, status_at, note_at};
 
 use crate::command::{Answer, command_of, prefix_of};
 use crate::session::serve;
-use crate::{Note, Ran, SessionEnd, Words};
+use crate::{Note, Past, Ran, SessionEnd, Words};
 use dobj_model::Id;
 use doip_json::Str;
 use doip_segment::{Decoder, Limits};
@@ -28,7 +30,11 @@ struct Setup {
 
 // How a repository is set up by the command.
 fn config_of(alloc: Global, command: &Answer<'_>) -> Result<Config, AllocError>
-    ensures { IfOk result (λ config. config.service ≡ command.now.service.now) }
+    requires { IsService command.now.service.now }
+    ensures service { IfOk result (λ config. config.service ≡ command.now.service.now) }
+    ensures prefix { IfOk result (λ config. config.prefix ≡ prefix_of command.now.service.now) }
+    ensures address { IfOk result (λ config. config.address ≡ address_of (command_in command.now)) }
+    ensures port { IfOk result (λ config. config.port ≡ port_of (command_in command.now)) }
 {
     match Id::of(alloc, command.service)? {
         Some(service) => Ok(Config {
@@ -37,19 +43,17 @@ fn config_of(alloc: Global, command: &Answer<'_>) -> Result<Config, AllocError>
             address: Str::of(alloc, command.address())?,
             port: command.port(),
         }),
-        None => Err(AllocError),
+        None => unreachable!(),
     }
 }
 
 // All memory that a session needs beside that of its replies.
-fn setup_of(alloc: Global, command: &Answer<'_>) -> Result<Setup, AllocError>
-    ensures service { IfOk result (λ s. s.config.service ≡ command.now.service.now) }
+fn setup_of(alloc: Global, words: &Words, command: &Answer<'_>) -> Result<Setup, AllocError>
+    requires { AreWordsOf (command_in command.now) words.now }
+    ensures is_setup { IfOk result (λ s. IsSetup words.now s.config s.decoder.limits) }
     ensures held { IfOk result (λ s. s.reader ≡ []) }
     ensures took { IfOk result (λ s. Took s.decoder []) }
     ensures place { IfOk result (λ s. s.decoder.taken ≡ 0) }
-    ensures least { IfOk result (λ s. 64 ≤ s.decoder.limits.total) }
-    ensures most { IfOk result (λ s. s.decoder.limits.total ≤ 16777216) }
-    ensures json { IfOk result (λ s. s.decoder.limits.json ≡ min s.decoder.limits.total 1048576) }
 {
     let total = command.request();
     let limits = Limits {
@@ -74,12 +78,14 @@ where
     ensures note { result.note ≡ note }
     ensures link { result.link ≡ None }
     ensures end { result.end ≡ None }
+    ensures past { result.past ≡ [] }
 {
     Ran {
         status,
         note,
         link: None,
         end: None,
+        past: Past::none(),
     }
 }
 
@@ -113,10 +119,13 @@ where
     // Whatever bytes the session brings and in whatever pieces, its requests are those that the grammar frames, and what is
     // written are the replies of one history of the one-thread repository, or a front of them where the link failed.
     ensures session { (input : List ℕ) (others : List (List ℕ)) → H.consoles host.old ≡ Some (input ∷ others) →
-        AnswersSession H.Link.taken H.Link.left H.Link.written H.Link.faults words.now input result.link result.end }
+        AnswersSession H.Link.taken H.Link.left H.Link.written H.Link.faults words.now input result.past result.link result.end }
+    ensures past { HasPast result.link result.past }
 
-    // Each status has its cause.
-    ensures status { HasStatus H.Link.faults (H.faults host.old) (H.faults host.new) result.status result.note result.link result.end }
+    // Each status has its cause, and where no fault was counted a command has status 0, or 4 for want of memory.
+    ensures status { HasStatus H.Link.faults words.now (H.faults host.old) (H.faults host.new) result.status result.note result.link result.end }
+    ensures complete { IsCommand words.now → ¬ Rose (H.faults host.old) (H.faults host.new) → IsFaultless H.Link.faults result.link →
+        (result.status ≡ 0) ⊎ (result.status ≡ 4) }
 
     // `console` is called once at most, and what it handed out is returned.
     ensures link { LinkCounted (H.links host.old) (H.links host.new) result.link }
@@ -125,7 +134,7 @@ where
     let Some(command) = command_of(words) else {
         return stopped(2, Note::Words);
     };
-    match setup_of(alloc, &command) {
+    match setup_of(alloc, words, &command) {
         Ok(setup) => run_answer(alloc, setup, host),
         Err(AllocError) => stopped(4, Note::Memory),
     }
@@ -139,8 +148,9 @@ where
     requires took { Took setup.decoder [] }
     requires place { setup.decoder.taken ≡ 0 }
     ensures session { (input : List ℕ) (others : List (List ℕ)) → H.consoles host.old ≡ Some (input ∷ others) →
-        AnswersLink H.Link.taken H.Link.left H.Link.written H.Link.faults setup.config setup.decoder.limits input result.link result.end }
-    ensures status { HasStatus H.Link.faults (H.faults host.old) (H.faults host.new) result.status result.note result.link result.end }
+        AnswersLink H.Link.taken H.Link.left H.Link.written H.Link.faults setup.config setup.decoder.limits input result.past result.link result.end }
+    ensures past { HasPast result.link result.past }
+    ensures status { IsStatus H.Link.faults (H.faults host.old) (H.faults host.new) result.status result.note result.link result.end }
     ensures link { LinkCounted (H.links host.old) (H.links host.new) result.link }
     ensures calls { Counts (H.console_calls host.old) (H.console_calls host.new) }
 {
@@ -158,7 +168,7 @@ where
     requires held { setup.reader ≡ [] }
     requires took { Took setup.decoder [] }
     requires place { setup.decoder.taken ≡ 0 }
-    ensures served { ServesLink H.Link.taken H.Link.left H.Link.written H.Link.faults setup.config setup.decoder.limits link result.link result.end }
+    ensures served { ServesLink H.Link.taken H.Link.left H.Link.written H.Link.faults setup.config setup.decoder.limits link result.past result.link result.end }
     ensures ends { EndsLink H.Link.faults link result.status result.note result.link result.end }
 {
     let Setup {
@@ -167,12 +177,13 @@ where
         mut decoder,
     } = setup;
     let mut link = link;
-    let end = serve(alloc, &config, &mut reader, &mut decoder, &mut link);
+    let (end, past) = serve(alloc, &config, &mut reader, &mut decoder, &mut link);
     let (status, note) = status_of(end);
     Ran {
         status,
         note,
         link: Some(link),
         end: Some(end),
+        past,
     }
 }

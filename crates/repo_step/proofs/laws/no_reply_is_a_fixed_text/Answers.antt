@@ -1,0 +1,6 @@
+use Rattle.doip_message.specs.Reading.{request}
+use Rattle.repo_step.proofs.FixedLemmas.{replied}
+use Rattle.repo_step.proofs.laws.no_reply_is_a_fixed_text.Goals as goal
+
+pub returns : goal.returns
+returns c = λ config message. replied config (request message)
