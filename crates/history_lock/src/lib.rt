@@ -15,6 +15,7 @@
 #![tactic(auto)]
 
 mod board;
+mod chosen;
 mod lock;
 mod meetings;
 mod opening;

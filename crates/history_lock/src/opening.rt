@@ -31,7 +31,7 @@ fn lay<T: Turned>(
     let mut slots = Vec::new(alloc);
     let slot = Slot {
         value: Some(value),
-        asked: None,
+        entry: None,
     };
     if let Err(failed) = slots.push(slot) {
         slots.destroy_empty();

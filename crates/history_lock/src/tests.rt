@@ -21,8 +21,6 @@ impl Turned for Counter {
 
     type Entry = u64;
 
-    ghost entry_of = { λ _ call _ _. call };
-
     ghost step = { λ old call entry reply new. (entry ≡ call) × (reply ≡ (old.sum + call) % 2 ^ 64) × (new.sum ≡ reply) };
 
     fn turn(&mut self, call: u64) -> u64 {

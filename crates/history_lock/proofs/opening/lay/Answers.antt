@@ -14,7 +14,7 @@ new-requires g c =
     let f : g.row.T.Denot = c.of.result.value in
     let n : ℕ = c.args.passes + 2 in
     let few : c.args.passes ≤ 64 = c.requires in
-    let slot : Slot g.row.T.Denot g.row.T-Call.Denot g.row.T-Reply.Denot = record { value = Some c.args.value; asked = None } in
+    let slot : Slot g.row.T.Denot g.row.T-Entry.Denot = record { value = Some c.args.value; entry = None } in
     let words : take n (replicate 66 0) ≡ replicate n 0 = take-replicate n 66 0 (omega arith) in
     let slots : c.push.new.self.items ≡ slot ∷ [] = c.in_default.ensures.items ∙ ap (λ xs. xs ++ slot ∷ []) c.new-slots.ensures.items in
     subst (λ ws. Kept L f c.args.passes (opening ws c.push.new.self.items (opening_view f c.args.passes))) (sym words)
