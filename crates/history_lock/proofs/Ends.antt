@@ -13,11 +13,11 @@ use Rattle.history_lock.specs.declared.board.Entered.{Entered}
 use Rattle.history_lock.specs.declared.board.Share.{Share}
 use Rattle.history_lock.specs.declared.board.Slot.{Slot}
 use Rattle.history_lock.specs.declared.board.View.{View}
-use Rattle.history_lock.specs.History.{entries, entries_by, held, AreOwn, AreBelow, Runs}
+use Rattle.history_lock.specs.History.{entries, entries_by, held, StandsForAll, AreOwn, AreBelow, Runs}
 use Rattle.history_lock.specs.Rule.{below, times, fresh, AreCounted, Fits, Kept, opening_view}
 use Rattle.history_lock.specs.Told.{IsResting, longer, first_share, other_shares, note_of, one_of, rest_of, both_of, spent}
 use Rattle.history_lock.proofs.Lists.{total_set, total_snoc, total_two, total_alone, prefix_self, prefix_shorter, same_here, same_else, below_next, below_one, below_not}
-use Rattle.history_lock.proofs.Histories.{by-append, by_between, below_rest, own_moves, own-append, own_agree, counted-append, held-append}
+use Rattle.history_lock.proofs.Histories.{by-append, by_between, below_rest, own_moves, own-append, own_agree, counted-append, held-append, as_many}
 use Rattle.history_lock.proofs.Views.{each_set, value_stays}
 
 fresh_held : (E : Type 0) (k n : ℕ) → held {E = E} k (fresh n) ≡ below k n
@@ -232,12 +232,12 @@ module _ {T E : Type 0} (leads : T → E → T → Type 0) (first : T) (passes :
           (λ l. let less : length xs < length ys = omega arith in let e : ltb (length xs) (length ys) ≡ true = grind (arith, nat_tests) in
           subst (λ (z : Bool). IsPrefix (if z then ys else xs) h × IsPrefix xs (if z then ys else xs) × IsPrefix ys (if z then ys else xs)) (sym e) (q, prefix_shorter xs ys h p q (omega arith), prefix_self ys))
 
-  -- at the end a view with as many numbers as there are has seen all, and has all of it under its numbers
-  pub closes : (id : ℕ) (v : View T E) (words : List ℕ) (slots : List (Slot T E)) → IsResting v → length v.shares ≡ passes → Final (Seen (Kept leads first passes) id v) words slots
+  -- at the end a view with all numbers has seen all, and has all of it under its numbers
+  pub closes : (id : ℕ) (v : View T E) (words : List ℕ) (slots : List (Slot T E)) → IsResting v → StandsForAll passes v.shares → Final (Seen (Kept leads first passes) id v) words slots
       → (slot : Slot T E) × (value : T) × (get_elem? slots 0 ≡ some slot) × (slot.value ≡ Some value) × Runs leads first (entries v.seen) value
       × AreOwn v.seen v.shares × AreBelow passes v.seen × ((k : ℕ) → held k v.shares ≡ below k passes)
   closes id v words slots rest all final = let s : State (Slot T E) (View T E) = final.0 in let r : Kept leads first passes s = final.1.0 in let at = final.1.1 in let f = r.each_view id v at in
-      let h : List (Entered E) = r.history in
+      let h : List (Entered E) = r.history in let many = as_many passes v.shares all in
       let others : (j : ℕ) (u : View T E) → j ≢ id → get_elem? s.views j ≡ some u → length u.shares ≡ 0 =
       λ j u n at'. let two = total_two (λ (x : View T E). length x.shares) s.views j id u v n at' at in let w = r.whole in omega arith in
       let held_all : (k : ℕ) → held k v.shares ≡ below k passes =
