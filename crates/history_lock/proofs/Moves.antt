@@ -147,10 +147,10 @@ module _ {T E : Type 0} (leads : T → E → T → Type 0) (first : T) (passes :
         (refl, seen_of v.noted v.seen r.history f.seen f.noted),
       )
 
-  pub announces : (slots id : ℕ) (me : Me (Slot T E) (View T E)) (k : ℕ) (own : List E) (ss : List (Share E)) (value : T) (chosen : Chosen E)
-      → me.0.come ≡ true → me.0.announced ≡ [] → me.0.shares ≡ (record { number = k; own = own }) ∷ ss → me.1 ≡ (0, record { value = Some value; entry = Some chosen }) ∷ []
+  pub announces : (slots id : ℕ) (me : Me (Slot T E) (View T E)) (k : ℕ) (own : List E) (ss : List (Share E)) (slot : Slot T E) (chosen : Chosen E)
+      → me.0.come ≡ true → me.0.announced ≡ [] → me.0.shares ≡ (record { number = k; own = own }) ∷ ss → me.1 ≡ (0, slot) ∷ [] → slot.entry ≡ Some chosen
       → Allows (Kept leads first passes) slots id me (k + 2) (λ n. (n + 1) % 2 ^ 64) (announced (step slots (k + 2) 1 0 none) me)
-  announces slots id me k own ss value chosen here quiet shares carried s r deep at fits = let v : View T E = me.0 in let e : E = chosen.entry in
+  announces slots id me k own ss slot chosen here quiet shares carried noted s r deep at fits = let v : View T E = me.0 in let e : E = chosen.entry in
       let n : ℕ = get_or s.words (k + 2) 0 in let x : ℕ = (n + 1) % 18446744073709551616 in let words' : List ℕ = set s.words (k + 2) x in let w : View T E = announcing v e in
       let f = r.each_view id v at in let wide = r.wide in let share : Share E = record { number = k; own = own } in
       let counted : AreCounted passes s.words 0 (share ∷ ss) = subst (AreCounted passes s.words 0) shares (subst (λ (a : List E). AreCounted passes s.words (length a) v.shares) quiet f.counted) in
@@ -179,9 +179,9 @@ module _ {T E : Type 0} (leads : T → E → T → Type 0) (first : T) (passes :
             (λ j u other at'. fits_words r.history s.words words' u (r.each_view j u at')
             (λ q l. apart q (λ i. numbers_apart leads first passes s r j id u v k other at' at (let z : held q u.shares ≡ held k u.shares = ap (λ (y : ℕ). held y u.shares) i in omega arith) (omega arith))))
             (λ _. refl) refl refl (value_stays leads first passes s r.history id v w words' at refl r.value),
-        λ value' chosen' carried'. let slot : Slot T E = record { value = Some value; entry = Some chosen } in let slot' : Slot T E = record { value = Some value'; entry = Some chosen' } in
+        λ slot' chosen' carried' noted'.
             let pair : ℕ × Slot T E = (0, slot) in let pair' : ℕ × Slot T E = (0, slot') in let lists : pair ∷ [] ≡ pair' ∷ [] = sym carried ∙ carried' in let pairs : pair ≡ pair' = cc (lists) in
-            let alike : chosen ≡ chosen' = cc (ap (λ (y : ℕ × Slot T E). y.1.entry) pairs) in (λ i. (announcing v (alike i).entry, me.1)),
+            let alike : chosen ≡ chosen' = cc (ap (λ (y : ℕ × Slot T E). y.1.entry) pairs, noted, noted') in (λ i. (announcing v (alike i).entry, me.1)),
       )
 
   pub publishes : (slots id : ℕ) (me : Me (Slot T E) (View T E)) (k : ℕ) (own : List E) (ss : List (Share E)) (e : E) (slot : Slot T E) (value : T)

@@ -28,3 +28,7 @@ runs_on step first seen seen' k old call e reply new runs turn same =
 pub alike : {T C E R : Type 0} (step : T → C → E → R → T → Type 0) {old old' : T} {call call' : C} {e : E} {reply reply' : R} {new new' : T}
     → old ≡ old' → call ≡ call' → reply ≡ reply' → new ≡ new' → step old call e reply new → step old' call' e reply' new'
 alike {T} {C} {E} {R} step {e = e} o c r n turn = subst (λ (x : T × C × R × T). step x.0 x.1 e x.2 x.3) (λ i. (o i, c i, r i, n i)) turn
+
+-- what is put in the slot in hand is all that is in hand
+pub put_in : {T E : Type 0} (m m' m'' : Me (Slot T E) (View T E)) (between slot : Slot T E) → rest m.1 ≡ [] → m' ≡ (m.0, (0, between) ∷ rest m.1) → m'' ≡ (m'.0, (0, slot) ∷ rest m'.1) → m'' ≡ (m.0, (0, slot) ∷ [])
+put_in {T} {E} m m' m'' between slot none took put = put ∙ (ap (λ (x : Me (Slot T E) (View T E)). (x.0, (0, slot) ∷ rest x.1)) took ∙ ap (λ (l : List (ℕ × Slot T E)). (m.0, (0, slot) ∷ l)) none)

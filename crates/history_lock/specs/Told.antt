@@ -107,8 +107,7 @@ module _ {T E : Type 0} where
   -- the entry of the turn in hand was announced
   abbrev pub announced : At T E → Sat T E → ℕ → Sat T E → Type 0
   announced st m n m' =
-      (value : T) (chosen : Chosen E) → m.1 ≡ (0, record { value = Some value; entry = Some chosen }) ∷ []
-      → m' ≡ (announcing m.0 chosen.entry, m.1)
+      (slot : Slot T E) (chosen : Chosen E) → m.1 ≡ (0, slot) ∷ [] → slot.entry ≡ Some chosen → m' ≡ (announcing m.0 chosen.entry, m.1)
 
   -- what was announced has joined the history, and the value is at home
   abbrev pub published : At T E → Sat T E → ℕ → Sat T E → Type 0

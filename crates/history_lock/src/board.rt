@@ -33,7 +33,7 @@ pub struct View<T, E> {
     pub announced: LinkedList<E, Global>,
 }
 
-/// Where the value stands between turns, with the entry of the turn that was taken last.
+/// Where the value stands between turns. While it is out, the entry of the turn that was taken with it.
 pub struct Slot<T, E> {
     pub value: Option<T>,
     pub entry: Option<Chosen<E>>,
@@ -46,6 +46,24 @@ impl<T, E> Slot<T, E> {
         Slot {
             value: None,
             entry: None,
+        }
+    }
+
+    pub(crate) fn of(value: T) -> Slot<T, E>
+        ensures { (result.value ≡ Some value) × (result.entry ≡ None) }
+    {
+        Slot {
+            value: Some(value),
+            entry: None,
+        }
+    }
+
+    pub(crate) fn noted(entry: Chosen<E>) -> Slot<T, E>
+        ensures { (result.value ≡ None) × (result.entry ≡ Some entry) }
+    {
+        Slot {
+            value: None,
+            entry: Some(entry),
         }
     }
 

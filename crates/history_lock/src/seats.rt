@@ -87,12 +87,10 @@ pub(crate) fn take_turn<T: Turned>(
         new,
     };
     let entry = Chosen::of(&turn);
-    let back = Slot {
-        value: Some(value),
-        entry: Some(entry),
-    };
-    table.exchange(seat, 0, back).discard();
+    // The value is still out, so a step can tell the entry from the slot.
+    table.exchange(seat, 0, Slot::noted(entry)).discard();
     table.fetch_add::<Announce>(seat, number + 2, 1);
+    table.exchange(seat, 0, Slot::of(value)).discard();
     let served = table.fetch_add::<Publish>(seat, 1, 1);
     wake(lock, served);
     answer
