@@ -13,11 +13,11 @@ use Rattle.history_lock.specs.declared.board.Entered.{Entered}
 use Rattle.history_lock.specs.declared.board.Share.{Share}
 use Rattle.history_lock.specs.declared.board.Slot.{Slot}
 use Rattle.history_lock.specs.declared.board.View.{View}
-use Rattle.history_lock.specs.History.{entries, entries_by, held, AreOwn, AreBelow, Runs}
+use Rattle.history_lock.specs.History.{entries, entries_by, held, StandsForAll, AreOwn, AreBelow, Runs}
 use Rattle.history_lock.specs.Rule.{below, times, fresh, AreCounted, Fits, Kept, opening_view}
 use Rattle.history_lock.specs.Told.{IsResting, longer, first_share, other_shares, note_of, one_of, rest_of, both_of, spent}
 use Rattle.history_lock.proofs.Lists.{total_set, total_snoc, total_two, total_alone, prefix_self, prefix_shorter, same_here, same_else, below_next, below_one, below_not}
-use Rattle.history_lock.proofs.Histories.{by-append, by_between, below_rest, own_moves, own-append, own_agree, counted-append, held-append}
+use Rattle.history_lock.proofs.Histories.{by-append, by_between, below_rest, own_moves, own-append, own_agree, counted-append, held-append, as_many}
 use Rattle.history_lock.proofs.Views.{each_set, value_stays}
 
 fresh_held : (E : Type 0) (k n : ℕ) → held {E = E} k (fresh n) ≡ below k n
@@ -44,8 +44,8 @@ each_one : {A : Type 0} (P : A → Type 0) (v : A) → P v → (j : ℕ) (u : A)
 each_one P v p zero u e = subst P (some-injective v u e) p
 each_one P v p (suc j) u e = absurd (some-ne-none u (sym e))
 
-module _ {T E C R : Type 0} (leads : T → E → T → Type 0) (first : T) (passes : ℕ) where
-  pub starts : (words : List ℕ) (slot : Slot T C R) → passes ≤ 64 → length words ≡ passes + 2 → ((i : ℕ) → i < passes + 2 → get_or words i 0 ≡ 0) → slot.value ≡ Some first
+module _ {T E : Type 0} (leads : T → E → T → Type 0) (first : T) (passes : ℕ) where
+  pub starts : (words : List ℕ) (slot : Slot T E) → passes ≤ 64 → length words ≡ passes + 2 → ((i : ℕ) → i < passes + 2 → get_or words i 0 ≡ 0) → slot.value ≡ Some first
       → Kept leads first passes (opening words (slot ∷ []) (opening_view first passes))
   starts words slot few wide blank there = record {
     history = [];
@@ -79,7 +79,7 @@ module _ {T E C R : Type 0} (leads : T → E → T → Type 0) (first : T) (pass
       → ((h : List (Entered E)) (words : List ℕ) → Fits first passes h words v → Fits first passes h words left × Fits first passes h words right)
       → ((n : ℕ) → times n left.tickets + times n right.tickets ≡ times n v.tickets) → length left.tickets + length right.tickets ≡ length v.tickets
       → ((k : ℕ) → held k left.shares + held k right.shares ≡ held k v.shares) → length left.shares + length right.shares ≡ length v.shares
-      → Splits (Kept {C = C} {R = R} leads first passes) id v left right
+      → Splits (Kept leads first passes) id v left right
   splits id v left right same_come parts fair count shared all s r at = let vs : List (View T E) = set s.views id left in let f = parts r.history s.words (r.each_view id v at) in record {
     history = r.history;
     drawn = r.drawn;
@@ -94,13 +94,13 @@ module _ {T E C R : Type 0} (leads : T → E → T → Type 0) (first : T) (pass
     numbers = λ k. let t = total_set (λ (u : View T E). held k u.shares) s.views id v left at in let more = total_snoc (λ (u : View T E). held k u.shares) vs right in let g = shared k in let q = r.numbers k in omega arith;
     whole = let t = total_set (λ (u : View T E). length u.shares) s.views id v left at in let more = total_snoc (λ (u : View T E). length u.shares) vs right in let q = r.whole in omega arith;
     taken = r.taken;
-    value = ⊎_elim (λ (x : (slot : Slot T C R) × (value : T) × (get_elem? s.homes 0 ≡ some (some slot)) × (slot.value ≡ Some value) × Runs leads first (entries r.history) value). inl x)
+    value = ⊎_elim (λ (x : (slot : Slot T E) × (value : T) × (get_elem? s.homes 0 ≡ some (some slot)) × (slot.value ≡ Some value) × Runs leads first (entries r.history) value). inl x)
         (λ (x : (j : ℕ) × (u : View T E) × (get_elem? vs j ≡ some u) × (u.come ≡ true)). inr (x.0, x.1, at_longer vs (right ∷ []) x.0 x.1 x.2, x.3))
         (value_stays leads first passes s r.history id v left s.words at same_come r.value);
   }
 
   -- a note of what was seen
-  pub splits_note : (id : ℕ) (v : View T E) → Splits (Kept {C = C} {R = R} leads first passes) id v v (note_of v)
+  pub splits_note : (id : ℕ) (v : View T E) → Splits (Kept leads first passes) id v v (note_of v)
   splits_note id v = splits id v v (note_of v) refl
       (λ h words f. (
         f,
@@ -119,7 +119,7 @@ module _ {T E C R : Type 0} (leads : T → E → T → Type 0) (first : T) (pass
       (λ n. omega arith) (omega arith) (λ k. omega arith) (omega arith)
 
   -- the first number goes to a seat of its own
-  pub splits_one : (id : ℕ) (v : View T E) → IsResting v → Splits (Kept {C = C} {R = R} leads first passes) id v (rest_of v) (one_of v)
+  pub splits_one : (id : ℕ) (v : View T E) → IsResting v → Splits (Kept leads first passes) id v (rest_of v) (one_of v)
   splits_one id v rest = let empty : length v.tickets ≡ 0 = ap length rest.0 in let quiet : length v.announced ≡ 0 = ap length rest.2 in splits id v (rest_of v) (one_of v) refl
       (λ h words f. let counted : AreCounted passes words 0 v.shares = subst (λ (a : ℕ). AreCounted passes words a v.shares) quiet f.counted in (
         record {
@@ -172,7 +172,7 @@ module _ {T E C R : Type 0} (leads : T → E → T → Type 0) (first : T) (pass
       length_parts (s ∷ ss) = omega arith
 
   -- one seat takes in another, which is spent
-  pub joins : (id : ℕ) (v : View T E) (other : ℕ) (w : View T E) → IsResting v → IsResting w → Joins (Kept {C = C} {R = R} leads first passes) id v other w (both_of v w) spent
+  pub joins : (id : ℕ) (v : View T E) (other : ℕ) (w : View T E) → IsResting v → IsResting w → Joins (Kept leads first passes) id v other w (both_of v w) spent
   joins id v other w rest rest' s r at apart there = let b : View T E = both_of v w in let o : View T E = spent in let vs : List (View T E) = set s.views id b in let us : List (View T E) = set vs other o in
       let h : List (Entered E) = r.history in let f = r.each_view id v at in
       let there' : get_elem? s.views other ≡ some w = sym (set_else s.views id other b apart) ∙ there in let g = r.each_view other w there' in
@@ -219,7 +219,7 @@ module _ {T E C R : Type 0} (leads : T → E → T → Type 0) (first : T) (pass
         whole = let t = total_set (λ (u : View T E). length u.shares) s.views id v b at in let t' = total_set (λ (u : View T E). length u.shares) vs other w o there in
             let z = length-append v.shares w.shares in let q = r.whole in omega arith;
         taken = r.taken;
-        value = ⊎_elim (λ (x : (slot : Slot T C R) × (value : T) × (get_elem? s.homes 0 ≡ some (some slot)) × (slot.value ≡ Some value) × Runs leads first (entries h) value). inl x)
+        value = ⊎_elim (λ (x : (slot : Slot T E) × (value : T) × (get_elem? s.homes 0 ≡ some (some slot)) × (slot.value ≡ Some value) × Runs leads first (entries h) value). inl x)
             (λ (x : (j : ℕ) × (u : View T E) × (get_elem? s.views j ≡ some u) × (u.come ≡ true)).
             let off : x.0 ≢ id = λ e. let alike : v ≡ x.1 = some-injective v x.1 (sym at ∙ (ap (λ j. get_elem? s.views j) (sym e) ∙ x.2)) in let c : v.come ≡ true = ap (λ y. y.come) alike ∙ x.3 in cc (c, rest.1) in
             let off' : x.0 ≢ other = λ e. let alike : w ≡ x.1 = some-injective w x.1 (sym there' ∙ (ap (λ j. get_elem? s.views j) (sym e) ∙ x.2)) in let c : w.come ≡ true = ap (λ y. y.come) alike ∙ x.3 in cc (c, rest'.1) in
@@ -232,18 +232,18 @@ module _ {T E C R : Type 0} (leads : T → E → T → Type 0) (first : T) (pass
           (λ l. let less : length xs < length ys = omega arith in let e : ltb (length xs) (length ys) ≡ true = grind (arith, nat_tests) in
           subst (λ (z : Bool). IsPrefix (if z then ys else xs) h × IsPrefix xs (if z then ys else xs) × IsPrefix ys (if z then ys else xs)) (sym e) (q, prefix_shorter xs ys h p q (omega arith), prefix_self ys))
 
-  -- at the end a view with as many numbers as there are has seen all, and has all of it under its numbers
-  pub closes : (id : ℕ) (v : View T E) (words : List ℕ) (slots : List (Slot T C R)) → IsResting v → length v.shares ≡ passes → Final (Seen (Kept leads first passes) id v) words slots
-      → (slot : Slot T C R) × (value : T) × (get_elem? slots 0 ≡ some slot) × (slot.value ≡ Some value) × Runs leads first (entries v.seen) value
+  -- at the end a view with all numbers has seen all, and has all of it under its numbers
+  pub closes : (id : ℕ) (v : View T E) (words : List ℕ) (slots : List (Slot T E)) → IsResting v → StandsForAll passes v.shares → Final (Seen (Kept leads first passes) id v) words slots
+      → (slot : Slot T E) × (value : T) × (get_elem? slots 0 ≡ some slot) × (slot.value ≡ Some value) × Runs leads first (entries v.seen) value
       × AreOwn v.seen v.shares × AreBelow passes v.seen × ((k : ℕ) → held k v.shares ≡ below k passes)
-  closes id v words slots rest all final = let s : State (Slot T C R) (View T E) = final.0 in let r : Kept leads first passes s = final.1.0 in let at = final.1.1 in let f = r.each_view id v at in
-      let h : List (Entered E) = r.history in
+  closes id v words slots rest all final = let s : State (Slot T E) (View T E) = final.0 in let r : Kept leads first passes s = final.1.0 in let at = final.1.1 in let f = r.each_view id v at in
+      let h : List (Entered E) = r.history in let many = as_many passes v.shares all in
       let others : (j : ℕ) (u : View T E) → j ≢ id → get_elem? s.views j ≡ some u → length u.shares ≡ 0 =
       λ j u n at'. let two = total_two (λ (x : View T E). length x.shares) s.views j id u v n at' at in let w = r.whole in omega arith in
       let held_all : (k : ℕ) → held k v.shares ≡ below k passes =
       λ k. sym (total_alone (λ (x : View T E). held k x.shares) s.views id v at (λ j u n at'. let z = others j u n at' in let y = held_short k u.shares in omega arith)) ∙ r.numbers k in
-      let home : (slot : Slot T C R) × (value : T) × (get_elem? s.homes 0 ≡ some (some slot)) × (slot.value ≡ Some value) × Runs leads first (entries h) value =
-      ⊎_elim (λ (x : (slot : Slot T C R) × (value : T) × (get_elem? s.homes 0 ≡ some (some slot)) × (slot.value ≡ Some value) × Runs leads first (entries h) value). x)
+      let home : (slot : Slot T E) × (value : T) × (get_elem? s.homes 0 ≡ some (some slot)) × (slot.value ≡ Some value) × Runs leads first (entries h) value =
+      ⊎_elim (λ (x : (slot : Slot T E) × (value : T) × (get_elem? s.homes 0 ≡ some (some slot)) × (slot.value ≡ Some value) × Runs leads first (entries h) value). x)
       (λ (out : (j : ℕ) × (u : View T E) × (get_elem? s.views j ≡ some u) × (u.come ≡ true)). dite (ℕ_discrete out.0 id)
       (λ e. let alike : v ≡ out.1 = some-injective v out.1 (sym at ∙ (ap (λ j. get_elem? s.views j) (sym e) ∙ out.2)) in let c : v.come ≡ true = ap (λ x. x.come) alike ∙ out.3 in absurd (cc (c, rest.1)))
       (λ n. let z = others out.0 out.1 n out.2 in let fu = r.each_view out.0 out.1 out.2 in let one : length out.1.tickets ≡ 1 = ap length (fu.come out.3).0 in let q = fu.queued in absurd (omega arith))) r.value in

@@ -1,15 +1,15 @@
 -- Histories that grow, and the shares of those who made them.
-use Rattle.std.proofs.Common.{◌≡◌, ◌≢◌, ℕ, ◌+◌, ◌<◌, if◌then◌else◌, List, [], ◌∷◌, ◌++◌, length, get_or, refl, ap, sym, subst, ◌∙◌, arith, length-append, eq-eqb, ne_eqb}
+use Rattle.std.proofs.Common.{◌≡◌, ◌≢◌, ℕ, zero, suc, ◌+◌, ◌<◌, ◌≤◌, if◌then◌else◌, List, [], ◌∷◌, ◌++◌, length, get_or, refl, ap, sym, subst, ◌∙◌, arith, length-append, eq-eqb, ne_eqb}
 use Rattle.std.proofs.lemmas.List.{append-nil}
 use mathlib.Core.Logic.{dite}
 use mathlib.Core.List.{IsPrefix}
 use native.Mathlib.Decide.{ℕ_discrete}
 use Rattle.history_lock.specs.declared.board.Entered.{Entered}
 use Rattle.history_lock.specs.declared.board.Share.{Share}
-use Rattle.history_lock.specs.History.{entered, entries_by, held, AreOwn, AreBelow, Runs}
-use Rattle.history_lock.specs.Rule.{AreBegun, AreCounted}
+use Rattle.history_lock.specs.History.{entered, entries_by, held, StandsForAll, AreOwn, AreBelow, Runs}
+use Rattle.history_lock.specs.Rule.{below, AreBegun, AreCounted}
 use Rattle.history_lock.specs.Told.{grown}
-use Rattle.history_lock.proofs.Lists.{same_here, same_else, prefix_trans, prefix_whole}
+use Rattle.history_lock.proofs.Lists.{same_here, same_else, same_turned, below_next, below_not, below_at_most, prefix_trans, prefix_whole}
 
 module _ {E : Type 0} where
   pub by-append : (k : ℕ) (xs ys : List (Entered E)) → entries_by k (xs ++ ys) ≡ entries_by k xs ++ entries_by k ys
@@ -67,6 +67,37 @@ module _ {E : Type 0} where
   pub held-append : (k : ℕ) (ss ts : List (Share E)) → held k (ss ++ ts) ≡ held k ss + held k ts
   held-append k [] ts = omega arith
   held-append k (s ∷ ss) ts = omega (arith, held-append k ss ts)
+
+-- how often the numbers below n stand among shares
+abbrev held_below : {E : Type 0} → ℕ → List (Share E) → ℕ
+held_below zero ss = 0
+held_below (suc n) ss = held n ss + held_below n ss
+
+held_below-none : (E : Type 0) (n : ℕ) → held_below {E = E} n [] ≡ 0
+held_below-none E zero = refl
+held_below-none E (suc n) = omega (arith, held_below-none E n)
+
+module _ {E : Type 0} where
+  held_below-one : (n : ℕ) (s : Share E) (ss : List (Share E)) → held_below n (s ∷ ss) ≡ below s.number n + held_below n ss
+  held_below-one zero s ss = let b = below_not s.number 0 (omega arith) in omega arith
+  held_below-one (suc n) s ss = let e = held_below-one n s ss in let b = below_next s.number n in let t = same_turned n s.number in
+      let next : below s.number (suc n) ≡ below s.number (n + 1) = ap (below s.number) (omega arith) in omega arith
+
+  held_below-few : (n : ℕ) (ss : List (Share E)) → held_below n ss ≤ length ss
+  held_below-few n [] = let e = held_below-none E n in omega arith
+  held_below-few n (s ∷ ss) = let e = held_below-one n s ss in let b = below_at_most s.number n in let r = held_below-few n ss in omega arith
+
+  -- who stands for all numbers has as many
+  pub as_many : (n : ℕ) (ss : List (Share E)) → StandsForAll n ss → n ≤ length ss
+  as_many n ss all = let few = held_below-few n ss in let much = each n all in omega arith
+    where
+      each : (m : ℕ) → ((k : ℕ) → k < m → 0 < held k ss) → m ≤ held_below m ss
+      each zero all' = omega arith
+      each (suc m) all' = let here = all' m (omega arith) in let r = each m (λ k l. all' k (omega arith)) in omega arith
+
+  pub held-grown : (k : ℕ) (e : E) (ss : List (Share E)) → held k (grown e ss) ≡ held k ss
+  held-grown k e [] = refl
+  held-grown k e (s ∷ ss) = refl
 
 pub grown-length : {E : Type 0} (e : E) (ss : List (Share E)) → length (grown e ss) ≡ length ss
 grown-length e [] = refl

@@ -4,5 +4,6 @@ pub mod Histories
 pub mod Lists
 pub mod Meeting
 pub mod Moves
+pub mod Sums
 pub mod Turning
 pub mod Views

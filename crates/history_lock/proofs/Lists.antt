@@ -100,3 +100,6 @@ below_not n m l = grind (arith, nat_tests)
 
 pub below_at_most : (n m : ℕ) → below n m ≤ 1
 below_at_most n m = dite (dec_le m n) (λ l. let e = below_not n m l in omega arith) (λ l. let e = below_one n m (omega arith) in omega arith)
+
+pub same_turned : (n m : ℕ) → same n m ≡ same m n
+same_turned n m = grind (arith, nat_tests)

@@ -12,7 +12,7 @@ use Rattle.atomic_table.proofs.Lists.{set_here}
 use Rattle.history_lock.specs.declared.board.Entered.{Entered}
 use Rattle.history_lock.specs.declared.board.Share.{Share}
 use Rattle.history_lock.specs.declared.board.Slot.{Slot}
-use Rattle.history_lock.specs.declared.board.Asked.{Asked}
+use Rattle.history_lock.specs.declared.chosen.Chosen.{Chosen}
 use Rattle.history_lock.specs.declared.board.View.{View}
 use Rattle.history_lock.specs.History.{entered, entries, same, held, AreOwn, Runs}
 use Rattle.history_lock.specs.Rule.{below, times, AreBegun, AreCounted, Fits, IsKeptValue, Kept}
@@ -25,14 +25,14 @@ seen_of : {A : Type 0} (xs : List (List A)) (seen history : List A) → IsPrefix
 seen_of [] seen history p b = tt
 seen_of (x ∷ xs) seen history p b = ((λ le. prefix_shorter x seen history b.0 p le), seen_of xs seen history p b.1)
 
-module _ {T E C R : Type 0} (leads : T → E → T → Type 0) (first : T) (passes : ℕ) where
+module _ {T E : Type 0} (leads : T → E → T → Type 0) (first : T) (passes : ℕ) where
   -- one view moves, and the history stands
-  reviews : (s : State (Slot T C R) (View T E)) (r : Kept leads first passes s) (id : ℕ) (v w : View T E) (words' : List ℕ) (homes' : List (maybe.Option (Slot T C R))) (drawn' : ℕ)
+  reviews : (s : State (Slot T E) (View T E)) (r : Kept leads first passes s) (id : ℕ) (v w : View T E) (words' : List ℕ) (homes' : List (maybe.Option (Slot T E))) (drawn' : ℕ)
       → get_elem? s.views id ≡ some v → length words' ≡ length s.words → length homes' ≡ length s.homes → get_or words' 0 0 ≡ drawn' % 2 ^ 64 → get_or words' 1 0 ≡ get_or s.words 1 0
       → Fits first passes r.history words' w → ((j : ℕ) (u : View T E) → j ≢ id → get_elem? s.views j ≡ some u → Fits first passes r.history words' u)
       → ((n : ℕ) → times n w.tickets + below n r.drawn ≡ times n v.tickets + below n drawn') → length w.tickets + r.drawn ≡ length v.tickets + drawn' → w.shares ≡ v.shares
-      → IsKeptValue leads first r.history (let t : State (Slot T C R) (View T E) = record { words = words'; homes = homes'; views = set s.views id w } in t)
-      → Kept leads first passes (let t : State (Slot T C R) (View T E) = record { words = words'; homes = homes'; views = set s.views id w } in t)
+      → IsKeptValue leads first r.history (let t : State (Slot T E) (View T E) = record { words = words'; homes = homes'; views = set s.views id w } in t)
+      → Kept leads first passes (let t : State (Slot T E) (View T E) = record { words = words'; homes = homes'; views = set s.views id w } in t)
   reviews s r id v w words' homes' drawn' at wide deep ticket serving mine others fair count same_shares value = record {
     history = r.history;
     drawn = drawn';
@@ -50,7 +50,7 @@ module _ {T E C R : Type 0} (leads : T → E → T → Type 0) (first : T) (pass
     value = value;
   }
 
-  pub draws : (slots id : ℕ) (me : Me (Slot T C R) (View T E)) → IsResting me.0 → 0 < length me.0.shares
+  pub draws : (slots id : ℕ) (me : Me (Slot T E) (View T E)) → IsResting me.0 → 0 < length me.0.shares
       → Allows (Kept leads first passes) slots id me 0 (λ n. (n + 1) % 2 ^ 64) (drew (step slots 0 1 0 none) me)
   draws slots id me rest some_share s r deep at fits = let v : View T E = me.0 in let w : View T E = waiting v r.drawn in let x : ℕ = (get_or s.words 0 0 + 1) % 18446744073709551616 in
       let wide = r.wide in let ticket = r.ticket in let f = r.each_view id v at in let words' : List ℕ = set s.words 0 x in
@@ -78,18 +78,18 @@ module _ {T E C R : Type 0} (leads : T → E → T → Type 0) (first : T) (pass
       )
 
   -- the slot is at home where the turn of the ticket that is served has not come
-  at_home : (s : State (Slot T C R) (View T E)) (r : Kept leads first passes s) (id : ℕ) (v : View T E) → get_elem? s.views id ≡ some v → v.come ≡ false → v.tickets ≡ length r.history ∷ []
-      → (slot : Slot T C R) × (value : T) × (get_elem? s.homes 0 ≡ some (some slot)) × (slot.value ≡ Some value) × Runs leads first (entries r.history) value
-  at_home s r id v at waits is = ⊎_elim (λ (x : (slot : Slot T C R) × (value : T) × (get_elem? s.homes 0 ≡ some (some slot)) × (slot.value ≡ Some value) × Runs leads first (entries r.history) value). x)
+  at_home : (s : State (Slot T E) (View T E)) (r : Kept leads first passes s) (id : ℕ) (v : View T E) → get_elem? s.views id ≡ some v → v.come ≡ false → v.tickets ≡ length r.history ∷ []
+      → (slot : Slot T E) × (value : T) × (get_elem? s.homes 0 ≡ some (some slot)) × (slot.value ≡ Some value) × Runs leads first (entries r.history) value
+  at_home s r id v at waits is = ⊎_elim (λ (x : (slot : Slot T E) × (value : T) × (get_elem? s.homes 0 ≡ some (some slot)) × (slot.value ≡ Some value) × Runs leads first (entries r.history) value). x)
       (λ (out : (j : ℕ) × (u : View T E) × (get_elem? s.views j ≡ some u) × (u.come ≡ true)). dite (ℕ_discrete out.0 id)
       (λ e. let alike : v ≡ out.1 = some-injective v out.1 (sym at ∙ (ap (λ j. get_elem? s.views j) (sym e) ∙ out.2)) in let c : v.come ≡ true = ap (λ x. x.come) alike ∙ out.3 in absurd (cc (c, waits)))
       (λ n. let c = comes_alone leads first passes s r id v at is out.0 out.1 n out.2 in absurd (cc (c, out.3)))) r.value
 
-  pub looks : (slots id : ℕ) (me : Me (Slot T C R) (View T E)) (t : ℕ) → me.0.tickets ≡ t ∷ [] → me.0.first ≡ Some first → me.0.come ≡ false → me.1 ≡ []
+  pub looks : (slots id : ℕ) (me : Me (Slot T E) (View T E)) (t : ℕ) → me.0.tickets ≡ t ∷ [] → me.0.first ≡ Some first → me.0.come ≡ false → me.1 ≡ []
       → Allows (Kept leads first passes) slots id me 1 (λ n. n) (looked leads (step slots 1 0 0 none) me)
   looks slots id me t is opened waits bare s r deep at fits = let v : View T E = me.0 in let n : ℕ = get_or s.words 1 0 in let words' : List ℕ = set s.words 1 n in let f = r.each_view id v at in
       let same_words : words' ≡ s.words = set-get_or s.words 1 0 in let as_before = λ (k : ℕ). ap (λ (ws : List ℕ). get_or ws k 0) same_words in let serving = r.serving in dite (ℕ_discrete (length r.history) t)
-      (λ e. let mine : v.tickets ≡ length r.history ∷ [] = is ∙ ap (λ (k : ℕ). k ∷ []) (sym e) in let home = at_home s r id v at waits mine in let slot : Slot T C R = home.0 in let w : View T E = arrived v r.history in (
+      (λ e. let mine : v.tickets ≡ length r.history ∷ [] = is ∙ ap (λ (k : ℕ). k ∷ []) (sym e) in let home = at_home s r id v at waits mine in let slot : Slot T E = home.0 in let w : View T E = arrived v r.history in (
         w,
         takes 0 slot,
         home.2,
@@ -108,7 +108,7 @@ module _ {T E C R : Type 0} (leads : T → E → T → Type 0) (first : T) (pass
             (λ j u apart at'. fits_words r.history s.words words' u (r.each_view j u at') (λ k _. as_before (k + 2))) (λ _. refl) refl refl
             (inr (id, w, set_here s.views id w (at_length s.views id v at), refl)),
         λ t' first' is' opened'. let alike : t ≡ t' = cc (is, is') in let alike' : first ≡ first' = cc (opened, opened') in (
-          (λ _. (r.history, slot, home.1, f.seen, ap (λ (c : List (ℕ × Slot T C R)). (w, (0, slot) ∷ c)) bare, home.3, subst (λ (x : T). Runs leads x (entries r.history) home.1) alike' home.4)),
+          (λ _. (r.history, slot, home.1, f.seen, ap (λ (c : List (ℕ × Slot T E)). (w, (0, slot) ∷ c)) bare, home.3, subst (λ (x : T). Runs leads x (entries r.history) home.1) alike' home.4)),
           λ miss. absurd (miss (serving ∙ ap (λ (k : ℕ). k % 18446744073709551616) (e ∙ alike))),
         ),
       ))
@@ -125,7 +125,7 @@ module _ {T E C R : Type 0} (leads : T → E → T → Type 0) (first : T) (pass
         ),
       ))
 
-  pub settles_noted : (slots id : ℕ) (me : Me (Slot T C R) (View T E)) → me.0.come ≡ false → Allows (Kept leads first passes) slots id me 1 (λ n. n) (settles (step slots 1 0 0 none) me)
+  pub settles_noted : (slots id : ℕ) (me : Me (Slot T E) (View T E)) → me.0.come ≡ false → Allows (Kept leads first passes) slots id me 1 (λ n. n) (settles (step slots 1 0 0 none) me)
   settles_noted slots id me waits s r deep at fits = let v : View T E = me.0 in let n : ℕ = get_or s.words 1 0 in let words' : List ℕ = set s.words 1 n in let f = r.each_view id v at in let w : View T E = settled v in
       let same_words : words' ≡ s.words = set-get_or s.words 1 0 in let as_before = λ (k : ℕ). ap (λ (ws : List ℕ). get_or ws k 0) same_words in (
         w,
@@ -147,10 +147,10 @@ module _ {T E C R : Type 0} (leads : T → E → T → Type 0) (first : T) (pass
         (refl, seen_of v.noted v.seen r.history f.seen f.noted),
       )
 
-  pub announces : (entry_of : T → C → R → T → E) (slots id : ℕ) (me : Me (Slot T C R) (View T E)) (k : ℕ) (own : List E) (ss : List (Share E)) (value : T) (asked : Asked T C R)
-      → me.0.come ≡ true → me.0.announced ≡ [] → me.0.shares ≡ (record { number = k; own = own }) ∷ ss → me.1 ≡ (0, record { value = Some value; asked = Some asked }) ∷ []
-      → Allows (Kept leads first passes) slots id me (k + 2) (λ n. (n + 1) % 2 ^ 64) (announced entry_of (step slots (k + 2) 1 0 none) me)
-  announces entry_of slots id me k own ss value asked here quiet shares carried s r deep at fits = let v : View T E = me.0 in let e : E = entry_of asked.old.value asked.call.value asked.reply.value value in
+  pub announces : (slots id : ℕ) (me : Me (Slot T E) (View T E)) (k : ℕ) (own : List E) (ss : List (Share E)) (slot : Slot T E) (chosen : Chosen E)
+      → me.0.come ≡ true → me.0.announced ≡ [] → me.0.shares ≡ (record { number = k; own = own }) ∷ ss → me.1 ≡ (0, slot) ∷ [] → slot.entry ≡ Some chosen
+      → Allows (Kept leads first passes) slots id me (k + 2) (λ n. (n + 1) % 2 ^ 64) (announced (step slots (k + 2) 1 0 none) me)
+  announces slots id me k own ss slot chosen here quiet shares carried noted s r deep at fits = let v : View T E = me.0 in let e : E = chosen.entry in
       let n : ℕ = get_or s.words (k + 2) 0 in let x : ℕ = (n + 1) % 18446744073709551616 in let words' : List ℕ = set s.words (k + 2) x in let w : View T E = announcing v e in
       let f = r.each_view id v at in let wide = r.wide in let share : Share E = record { number = k; own = own } in
       let counted : AreCounted passes s.words 0 (share ∷ ss) = subst (AreCounted passes s.words 0) shares (subst (λ (a : List E). AreCounted passes s.words (length a) v.shares) quiet f.counted) in
@@ -179,18 +179,17 @@ module _ {T E C R : Type 0} (leads : T → E → T → Type 0) (first : T) (pass
             (λ j u other at'. fits_words r.history s.words words' u (r.each_view j u at')
             (λ q l. apart q (λ i. numbers_apart leads first passes s r j id u v k other at' at (let z : held q u.shares ≡ held k u.shares = ap (λ (y : ℕ). held y u.shares) i in omega arith) (omega arith))))
             (λ _. refl) refl refl (value_stays leads first passes s r.history id v w words' at refl r.value),
-        λ value' asked' carried'. let slot : Slot T C R = record { value = Some value; asked = Some asked } in let slot' : Slot T C R = record { value = Some value'; asked = Some asked' } in
-            let pair : ℕ × Slot T C R = (0, slot) in let pair' : ℕ × Slot T C R = (0, slot') in let lists : pair ∷ [] ≡ pair' ∷ [] = sym carried ∙ carried' in let pairs : pair ≡ pair' = cc (lists) in
-            let alike : value ≡ value' = cc (ap (λ (y : ℕ × Slot T C R). y.1.value) pairs) in let alike' : asked ≡ asked' = cc (ap (λ (y : ℕ × Slot T C R). y.1.asked) pairs) in
-            (λ i. (announcing v (entry_of (alike' i).old.value (alike' i).call.value (alike' i).reply.value (alike i)), me.1)),
+        λ slot' chosen' carried' noted'.
+            let pair : ℕ × Slot T E = (0, slot) in let pair' : ℕ × Slot T E = (0, slot') in let lists : pair ∷ [] ≡ pair' ∷ [] = sym carried ∙ carried' in let pairs : pair ≡ pair' = cc (lists) in
+            let alike : chosen ≡ chosen' = cc (ap (λ (y : ℕ × Slot T E). y.1.entry) pairs, noted, noted') in (λ i. (announcing v (alike i).entry, me.1)),
       )
 
-  pub publishes : (slots id : ℕ) (me : Me (Slot T C R) (View T E)) (k : ℕ) (own : List E) (ss : List (Share E)) (e : E) (slot : Slot T C R) (value : T)
+  pub publishes : (slots id : ℕ) (me : Me (Slot T E) (View T E)) (k : ℕ) (own : List E) (ss : List (Share E)) (e : E) (slot : Slot T E) (value : T)
       → me.0.come ≡ true → me.0.announced ≡ e ∷ [] → me.0.shares ≡ (record { number = k; own = own }) ∷ ss → me.1 ≡ (0, slot) ∷ [] → slot.value ≡ Some value
       → Runs leads first (entries (me.0.seen ++ entered k e ∷ [])) value
       → Allows (Kept leads first passes) slots id me 1 (λ n. (n + 1) % 2 ^ 64) (published (step slots 1 1 0 none) me)
   publishes slots id me k own ss e slot value here loud shares carried there runs s r deep at fits = let v : View T E = me.0 in let h : List (Entered E) = r.history in let h' : List (Entered E) = h ++ entered k e ∷ [] in
-      let n : ℕ = get_or s.words 1 0 in let x : ℕ = (n + 1) % 18446744073709551616 in let words' : List ℕ = set s.words 1 x in let homes' : List (maybe.Option (Slot T C R)) = set s.homes 0 (some slot) in
+      let n : ℕ = get_or s.words 1 0 in let x : ℕ = (n + 1) % 18446744073709551616 in let words' : List ℕ = set s.words 1 x in let homes' : List (maybe.Option (Slot T E)) = set s.homes 0 (some slot) in
       let f = r.each_view id v at in let wide = r.wide in let deep' = r.deep in let share : Share E = record { number = k; own = own } in let come = f.come here in
       let w : View T E = publishing v e in
       let long : length h' ≡ length h + 1 = length-append h (entered k e ∷ []) in
@@ -203,7 +202,7 @@ module _ {T E C R : Type 0} (leads : T → E → T → Type 0) (first : T) (pass
       let owns' : AreOwn h' ((record { number = k; own = own ++ e ∷ [] }) ∷ ss) =
       (ap (λ (l : List E). l ++ e ∷ []) owns.0 ∙ sym (by_here k h e), own_moves h h' ss (λ j l. by_else j k h e (λ i. let z : held k ss ≡ held j ss = ap (λ (q : ℕ). held q ss) i in omega arith)) owns.1) in
       let serving = r.serving in let longer_own : length (own ++ e ∷ []) ≡ length own + 1 = length-append own (e ∷ []) in
-      let s' : State (Slot T C R) (View T E) = record { words = words'; homes = homes'; views = set s.views id w } in
+      let s' : State (Slot T E) (View T E) = record { words = words'; homes = homes'; views = set s.views id w } in
       let kept : Kept leads first passes s' = record {
         history = h';
         drawn = r.drawn;
@@ -239,6 +238,6 @@ module _ {T E C R : Type 0} (leads : T → E → T → Type 0) (first : T) (pass
         w,
         gives,
         tt,
-        subst (λ (cs : List (ℕ × Slot T C R)). Kept leads first passes (stepped s 1 x id cs w gives)) (sym carried) kept,
+        subst (λ (cs : List (ℕ × Slot T E)). Kept leads first passes (stepped s 1 x id cs w gives)) (sym carried) kept,
         λ e' loud'. let alike : e ≡ e' = cc (loud, loud') in (λ i. (publishing v (alike i), Rattle.atomic_table.specs.Table.rest (carried i))),
       )

@@ -60,14 +60,14 @@ module _ {T E : Type 0} {first : T} {passes : ℕ} where
     queued = f.queued;
   }
 
-module _ {T E C R : Type 0} (leads : T → E → T → Type 0) (first : T) (passes : ℕ) where
+module _ {T E : Type 0} (leads : T → E → T → Type 0) (first : T) (passes : ℕ) where
   -- no more tickets are out than there are passes
-  pub few_out : (s : State (Slot T C R) (View T E)) (r : Kept leads first passes s) → r.drawn ≤ length r.history + passes
+  pub few_out : (s : State (Slot T E) (View T E)) (r : Kept leads first passes s) → r.drawn ≤ length r.history + passes
   few_out s r = let out = total_le (λ (v : View T E). length v.tickets) (λ (v : View T E). length v.shares) s.views (λ j v at. (r.each_view j v at).queued) in
       let q = r.queue in let w = r.whole in omega arith
 
   -- a ticket that is out is one from the served to below the drawn
-  pub ticket_out : (s : State (Slot T C R) (View T E)) (r : Kept leads first passes s) (id : ℕ) (v : View T E) (t : ℕ) → get_elem? s.views id ≡ some v → v.tickets ≡ t ∷ [] → (length r.history ≤ t) × (t < r.drawn)
+  pub ticket_out : (s : State (Slot T E) (View T E)) (r : Kept leads first passes s) (id : ℕ) (v : View T E) (t : ℕ) → get_elem? s.views id ≡ some v → v.tickets ≡ t ∷ [] → (length r.history ≤ t) × (t < r.drawn)
   ticket_out s r id v t at is = let one = total_one (λ (u : View T E). times t u.tickets) s.views id v at in let mine : times t v.tickets ≡ 1 = ap (times t) is ∙ (let e = same_here t t refl in omega arith) in
       let all = r.tickets t in let top = below_at_most t r.drawn in (
         dite (dec_le (length r.history) t) (λ l. l) (λ n. let b = below_one t (length r.history) (omega arith) in absurd (omega arith)),
@@ -75,29 +75,29 @@ module _ {T E C R : Type 0} (leads : T → E → T → Type 0) (first : T) (pass
       )
 
   -- no two views have one ticket
-  pub tickets_apart : (s : State (Slot T C R) (View T E)) (r : Kept leads first passes s) (i j : ℕ) (v u : View T E) (t : ℕ) → i ≢ j → get_elem? s.views i ≡ some v → get_elem? s.views j ≡ some u → v.tickets ≡ t ∷ [] → u.tickets ≡ t ∷ [] → ⊥
+  pub tickets_apart : (s : State (Slot T E) (View T E)) (r : Kept leads first passes s) (i j : ℕ) (v u : View T E) (t : ℕ) → i ≢ j → get_elem? s.views i ≡ some v → get_elem? s.views j ≡ some u → v.tickets ≡ t ∷ [] → u.tickets ≡ t ∷ [] → ⊥
   tickets_apart s r i j v u t n at at' is is' = let two = total_two (λ (x : View T E). times t x.tickets) s.views i j v u n at at' in let e = same_here t t refl in
       let mine : times t v.tickets ≡ 1 = ap (times t) is ∙ omega arith in let other : times t u.tickets ≡ 1 = ap (times t) is' ∙ omega arith in
       let all = r.tickets t in let top = below_at_most t r.drawn in omega arith
 
   -- where a view has the ticket that is served, the turn of no other has come
-  pub comes_alone : (s : State (Slot T C R) (View T E)) (r : Kept leads first passes s) (id : ℕ) (v : View T E) → get_elem? s.views id ≡ some v → v.tickets ≡ length r.history ∷ [] → (j : ℕ) (u : View T E) → j ≢ id → get_elem? s.views j ≡ some u → u.come ≡ false
+  pub comes_alone : (s : State (Slot T E) (View T E)) (r : Kept leads first passes s) (id : ℕ) (v : View T E) → get_elem? s.views id ≡ some v → v.tickets ≡ length r.history ∷ [] → (j : ℕ) (u : View T E) → j ≢ id → get_elem? s.views j ≡ some u → u.come ≡ false
   comes_alone s r id v at is j u n at' = ⊎_elim (λ (c : u.come ≡ true). absurd (tickets_apart s r j id u v (length r.history) n at' at ((r.each_view j u at').come c).0 is)) (λ (c : u.come ≡ false). c) (either_way u.come)
 
   -- no two views hold one number
-  pub numbers_apart : (s : State (Slot T C R) (View T E)) (r : Kept leads first passes s) (i j : ℕ) (v u : View T E) (k : ℕ) → i ≢ j → get_elem? s.views i ≡ some v → get_elem? s.views j ≡ some u → 0 < held k v.shares → 0 < held k u.shares → ⊥
+  pub numbers_apart : (s : State (Slot T E) (View T E)) (r : Kept leads first passes s) (i j : ℕ) (v u : View T E) (k : ℕ) → i ≢ j → get_elem? s.views i ≡ some v → get_elem? s.views j ≡ some u → 0 < held k v.shares → 0 < held k u.shares → ⊥
   numbers_apart s r i j v u k n at at' l l' = let two = total_two (λ (x : View T E). held k x.shares) s.views i j v u n at at' in let all = r.numbers k in let top = below_at_most k passes in omega arith
 
-  pub held_once : (s : State (Slot T C R) (View T E)) (r : Kept leads first passes s) (id : ℕ) (v : View T E) (k : ℕ) → get_elem? s.views id ≡ some v → held k v.shares ≤ 1
+  pub held_once : (s : State (Slot T E) (View T E)) (r : Kept leads first passes s) (id : ℕ) (v : View T E) (k : ℕ) → get_elem? s.views id ≡ some v → held k v.shares ≤ 1
   held_once s r id v k at = let one = total_one (λ (x : View T E). held k x.shares) s.views id v at in let all = r.numbers k in let top = below_at_most k passes in omega arith
 
   -- the number that is served is the ticket's only where it is the ticket
-  pub is_served : (s : State (Slot T C R) (View T E)) (r : Kept leads first passes s) (id : ℕ) (v : View T E) (t : ℕ) → get_elem? s.views id ≡ some v → v.tickets ≡ t ∷ [] → length r.history % 2 ^ 64 ≡ t % 2 ^ 64 → length r.history ≡ t
+  pub is_served : (s : State (Slot T E) (View T E)) (r : Kept leads first passes s) (id : ℕ) (v : View T E) (t : ℕ) → get_elem? s.views id ≡ some v → v.tickets ≡ t ∷ [] → length r.history % 2 ^ 64 ≡ t % 2 ^ 64 → length r.history ≡ t
   is_served s r id v t at is e = let out = ticket_out s r id v t at is in let low = out.0 in let high = out.1 in let f = few_out s r in let few = r.few in
       one_turn (length r.history) t 18446744073709551616 low (omega arith) e
 
   -- the value stays where it was, as one view moves
-  pub value_stays : (s : State (Slot T C R) (View T E)) (h : List (Entered E)) (id : ℕ) (v w : View T E) (words' : List ℕ) → get_elem? s.views id ≡ some v → w.come ≡ v.come → IsKeptValue leads first h s
+  pub value_stays : (s : State (Slot T E) (View T E)) (h : List (Entered E)) (id : ℕ) (v w : View T E) (words' : List ℕ) → get_elem? s.views id ≡ some v → w.come ≡ v.come → IsKeptValue leads first h s
       → IsKeptValue leads first h record { words = words'; homes = s.homes; views = set s.views id w }
   value_stays s h id v w words' at same_come (inl x) = inl x
   value_stays s h id v w words' at same_come (inr out) = dite (ℕ_discrete out.0 id)

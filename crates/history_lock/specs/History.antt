@@ -26,6 +26,10 @@ module _ {E : Type 0} where
   held k [] = 0
   held k (s ∷ ss) = same k s.number + held k ss
 
+  -- each number below n stands among them
+  abbrev pub StandsForAll : ℕ → List (Share E) → Type 0
+  StandsForAll n ss = (k : ℕ) → k < n → 0 < held k ss
+
   -- each share has the entries that stand under its number in the history
   abbrev pub AreOwn : List (Entered E) → List (Share E) → Type 0
   AreOwn history [] = Unit {0}

@@ -1,3 +1,4 @@
+pub mod Counter
 pub mod History
 pub mod Passes
 pub mod Rule

@@ -82,12 +82,13 @@ AreDealt {T} {C} {R} {E} {g} id all ps =
     → (p.seat.table_id ≡ id.0) × (p.seat.me.0.first ≡ id.1) × (p.seat.me.0.seen ≡ []) × (p.seat.me.0.shares ≡ (record { number = p.number; own = [] }) ∷ []) × (p.number + (k + 1) ≡ all)
 
 -- One turn of a pass: between what it had seen and its entry stand turns of others, the reply is that of the entry's step on what the history left, and its own entries are one more.
-pub record IsTurn {T C R E : Type 0} {g : Ghosts T C R E} (step : T → C → E → R → T → Type 0) (entry_of : T → C → R → T → E) (first : T) (before after : Pass T C R E g) (call : C) (reply : R) : Type 0 where
+pub record IsTurn {T C R E : Type 0} {g : Ghosts T C R E} (step : T → C → E → R → T → Type 0) (first : T) (before after : Pass T C R E g) (call : C) (reply : R) : Type 0 where
   pub between : List (Entered E)
   pub old : T
+  pub entry : E
   pub new : T
-  pub has_seen : seen after ≡ (seen before ++ between) ++ entered (number before) (entry_of old call reply new) ∷ []
+  pub has_seen : seen after ≡ (seen before ++ between) ++ entered (number before) entry ∷ []
   pub led : Runs (Leads step) first (entries (seen before ++ between)) old
-  pub stepped : step old call (entry_of old call reply new) reply new
+  pub stepped : step old call entry reply new
   pub leads : Runs (Leads step) first (entries (seen after)) new
-  pub has_own : shares after ≡ grown (entry_of old call reply new) (shares before)
+  pub has_own : shares after ≡ grown entry (shares before)

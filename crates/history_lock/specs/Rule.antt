@@ -19,7 +19,7 @@ abbrev pub times : ℕ → List ℕ → ℕ
 times n [] = 0
 times n (m ∷ ms) = same n m + times n ms
 
--- a weight of all views together
+-- a weight of all items together
 abbrev pub total : {A : Type 0} → (A → ℕ) → List A → ℕ
 total f [] = 0
 total f (x ∷ xs) = f x + total f xs
@@ -52,13 +52,13 @@ pub record Fits {T E : Type 0} (first : T) (passes : ℕ) (history : List (Enter
   pub queued : length v.tickets ≤ length v.shares
 
 -- the value is at home and is what the history leaves, or it is out with a seat whose turn has come
-abbrev pub IsKeptValue : {T E C R : Type 0} → (T → E → T → Type 0) → T → List (Entered E) → State (Slot T C R) (View T E) → Type 0
-IsKeptValue {T} {E} {C} {R} leads first history s =
-    ((slot : Slot T C R) × (value : T) × (get_elem? s.homes 0 ≡ some (some slot)) × (slot.value ≡ Some value) × Runs leads first (entries history) value)
+abbrev pub IsKeptValue : {T E : Type 0} → (T → E → T → Type 0) → T → List (Entered E) → State (Slot T E) (View T E) → Type 0
+IsKeptValue {T} {E} leads first history s =
+    ((slot : Slot T E) × (value : T) × (get_elem? s.homes 0 ≡ some (some slot)) × (slot.value ≡ Some value) × Runs leads first (entries history) value)
     ⊎ ((id : ℕ) × (v : View T E) × (get_elem? s.views id ≡ some v) × (v.come ≡ true))
 
 -- there is one history, which the words count, the views have seen and the value follows
-pub record Kept {T E C R : Type 0} (leads : T → E → T → Type 0) (first : T) (passes : ℕ) (s : State (Slot T C R) (View T E)) : Type 0 where
+pub record Kept {T E : Type 0} (leads : T → E → T → Type 0) (first : T) (passes : ℕ) (s : State (Slot T E) (View T E)) : Type 0 where
   pub history : List (Entered E)
   pub drawn : ℕ
   pub few : passes ≤ 64

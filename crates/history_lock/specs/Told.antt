@@ -6,7 +6,7 @@ use Rattle.history_lock.specs.declared.board.Entered.{Entered}
 use Rattle.history_lock.specs.declared.board.Share.{Share}
 use Rattle.history_lock.specs.declared.board.View.{View}
 use Rattle.history_lock.specs.declared.board.Slot.{Slot}
-use Rattle.history_lock.specs.declared.board.Asked.{Asked}
+use Rattle.history_lock.specs.declared.chosen.Chosen.{Chosen}
 use Rattle.history_lock.specs.History.{entered, entries, Leads, Runs}
 
 module _ {E : Type 0} where
@@ -81,51 +81,50 @@ module _ {T E : Type 0} where
   abbrev pub spent : View T E
   spent = record { first = None; seen = []; noted = []; shares = []; tickets = []; come = false; announced = [] }
 
-abbrev pub Sat : Type 0 → Type 0 → Type 0 → Type 0 → Type 0
-Sat T E C R = Me (Slot T C R) (View T E)
+abbrev pub Sat : Type 0 → Type 0 → Type 0
+Sat T E = Me (Slot T E) (View T E)
 
-abbrev pub At : Type 0 → Type 0 → Type 0 → Type 0
-At T C R = Step (Slot T C R)
+abbrev pub At : Type 0 → Type 0 → Type 0
+At T E = Step (Slot T E)
 
-module _ {T E C R : Type 0} where
+module _ {T E : Type 0} where
   -- a ticket was drawn
-  abbrev pub drew : At T C R → Sat T E C R → ℕ → Sat T E C R → Type 0
+  abbrev pub drew : At T E → Sat T E → ℕ → Sat T E → Type 0
   drew st m n m' = (t : ℕ) × (n ≡ t % 2 ^ 64) × (m' ≡ (waiting m.0 t, m.1))
 
   -- the turn has come: the whole history was seen, and the slot is taken, which has the value that the history leaves
-  abbrev pub Arrives : (T → E → T → Type 0) → T → Sat T E C R → Sat T E C R → Type 0
+  abbrev pub Arrives : (T → E → T → Type 0) → T → Sat T E → Sat T E → Type 0
   Arrives leads first m m' =
-      (history : List (Entered E)) × (slot : Slot T C R) × (value : T)
+      (history : List (Entered E)) × (slot : Slot T E) × (value : T)
       × IsPrefix m.0.seen history × (m' ≡ (arrived m.0 history, (0, slot) ∷ [])) × (slot.value ≡ Some value) × Runs leads first (entries history) value
 
   -- the turn of the ticket has come where it is the number found
-  abbrev pub looked : (T → E → T → Type 0) → At T C R → Sat T E C R → ℕ → Sat T E C R → Type 0
+  abbrev pub looked : (T → E → T → Type 0) → At T E → Sat T E → ℕ → Sat T E → Type 0
   looked leads st m n m' =
       (t : ℕ) (first : T) → m.0.tickets ≡ t ∷ [] → m.0.first ≡ Some first
       → (n ≡ t % 2 ^ 64 → Arrives leads first m m') × (n ≢ t % 2 ^ 64 → m' ≡ m)
 
   -- the entry of the turn in hand was announced
-  abbrev pub announced : (T → C → R → T → E) → At T C R → Sat T E C R → ℕ → Sat T E C R → Type 0
-  announced entry_of st m n m' =
-      (value : T) (asked : Asked T C R) → m.1 ≡ (0, record { value = Some value; asked = Some asked }) ∷ []
-      → m' ≡ (announcing m.0 (entry_of asked.old.value asked.call.value asked.reply.value value), m.1)
+  abbrev pub announced : At T E → Sat T E → ℕ → Sat T E → Type 0
+  announced st m n m' =
+      (slot : Slot T E) (chosen : Chosen E) → m.1 ≡ (0, slot) ∷ [] → slot.entry ≡ Some chosen → m' ≡ (announcing m.0 chosen.entry, m.1)
 
   -- what was announced has joined the history, and the value is at home
-  abbrev pub published : At T C R → Sat T E C R → ℕ → Sat T E C R → Type 0
+  abbrev pub published : At T E → Sat T E → ℕ → Sat T E → Type 0
   published st m n m' = (e : E) → m.0.announced ≡ e ∷ [] → m' ≡ (publishing m.0 e, [])
 
   -- what was noted is seen
-  abbrev pub settles : At T C R → Sat T E C R → ℕ → Sat T E C R → Type 0
+  abbrev pub settles : At T E → Sat T E → ℕ → Sat T E → Type 0
   settles st m n m' = (m' ≡ (settled m.0, m.1)) × AreSeen m.0.noted m.0.seen
 
   -- the value in hand is what the history leaves, as the turn has come
-  abbrev pub IsServing : (T → E → T → Type 0) → T → Sat T E C R → Type 0
+  abbrev pub IsServing : (T → E → T → Type 0) → T → Sat T E → Type 0
   IsServing leads first m =
-      (slot : Slot T C R) × (value : T) × (m.1 ≡ (0, slot) ∷ []) × (slot.value ≡ Some value) × Runs leads first (entries m.0.seen) value
+      (slot : Slot T E) × (value : T) × (m.1 ≡ (0, slot) ∷ []) × (slot.value ≡ Some value) × Runs leads first (entries m.0.seen) value
       × (m.0.come ≡ true) × (m.0.announced ≡ [])
 
   -- a turn was taken on what the history leaves, and has joined the history
-  abbrev pub Serves : (T → C → E → R → T → Type 0) → (T → C → R → T → E) → T → Sat T E C R → C → R → Sat T E C R → Type 0
-  Serves step entry_of first m call reply m' =
-      (old : T) × (new : T) × Runs (Leads step) first (entries m.0.seen) old × step old call (entry_of old call reply new) reply new
-      × (m' ≡ (publishing m.0 (entry_of old call reply new), []))
+  abbrev pub Serves : {C R : Type 0} → (T → C → E → R → T → Type 0) → T → Sat T E → C → R → Sat T E → Type 0
+  Serves step first m call reply m' =
+      (old : T) × (entry : E) × (new : T) × Runs (Leads step) first (entries m.0.seen) old × step old call entry reply new
+      × (m' ≡ (publishing m.0 entry, []))

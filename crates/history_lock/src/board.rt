@@ -2,6 +2,7 @@
 //! word k + 2 the turns that the pass with the number k took. The slot holds the value.
 ghost use Rattle.std.specs.Prelude.{◌≡◌};
 
+use crate::chosen::Chosen;
 use crate::turned::Turned;
 use atomic_table::{Seat, Table, TableRule};
 use std::alloc::Global;
@@ -32,35 +33,37 @@ pub struct View<T, E> {
     pub announced: LinkedList<E, Global>,
 }
 
-/// A turn that was taken, for the proofs alone.
-pub struct Asked<T, C, R> {
-    pub old: Snapshot<T>,
-    pub call: Snapshot<C>,
-    pub reply: Snapshot<R>,
-}
-
-/// Where the value stands between turns, with the turn that was taken last.
-pub struct Slot<T, C, R> {
+/// Where the value stands between turns. While it is out, the entry of the turn that was taken with it.
+pub struct Slot<T, E> {
     pub value: Option<T>,
-    pub asked: Option<Asked<T, C, R>>,
+    pub entry: Option<Chosen<E>>,
 }
 
-impl<T, C, R> Drop for Asked<T, C, R> {
-    fn drop(self) {
-        let Self { old, call, reply } = self;
-        drop(old);
-        drop(call);
-        drop(reply);
-    }
-}
-
-impl<T, C, R> Slot<T, C, R> {
-    pub(crate) fn empty() -> Slot<T, C, R>
-        ensures { (result.value ≡ None) × (result.asked ≡ None) }
+impl<T, E> Slot<T, E> {
+    pub(crate) fn empty() -> Slot<T, E>
+        ensures { (result.value ≡ None) × (result.entry ≡ None) }
     {
         Slot {
             value: None,
-            asked: None,
+            entry: None,
+        }
+    }
+
+    pub(crate) fn of(value: T) -> Slot<T, E>
+        ensures { (result.value ≡ Some value) × (result.entry ≡ None) }
+    {
+        Slot {
+            value: Some(value),
+            entry: None,
+        }
+    }
+
+    pub(crate) fn noted(entry: Chosen<E>) -> Slot<T, E>
+        ensures { (result.value ≡ None) × (result.entry ≡ Some entry) }
+    {
+        Slot {
+            value: None,
+            entry: Some(entry),
         }
     }
 
@@ -68,8 +71,8 @@ impl<T, C, R> Slot<T, C, R> {
         requires { (value : T) × (self.value ≡ Some value) }
         ensures { self.value ≡ Some result }
     {
-        let Slot { value, asked } = self;
-        drop(asked);
+        let Slot { value, entry } = self;
+        drop(entry);
         let Some(value) = value else { unreachable!() };
         value
     }
@@ -77,8 +80,8 @@ impl<T, C, R> Slot<T, C, R> {
     pub(crate) fn discard(self)
         requires { self.value ≡ None }
     {
-        let Slot { value, asked } = self;
-        drop(asked);
+        let Slot { value, entry } = self;
+        drop(entry);
         let None = value else { unreachable!() };
     }
 }
@@ -101,7 +104,7 @@ pub struct Turns<T> {
     of: PhantomData<T>,
 }
 
-impl<T: Turned> TableRule<Slot<T, T::Call, T::Reply>, View<T, T::Entry>, Origin<T>> for Turns<T> {
+impl<T: Turned> TableRule<Slot<T, T::Entry>, View<T, T::Entry>, Origin<T>> for Turns<T> {
     ghost use Rattle.history_lock.specs.Rule.{Kept, opening_view};
     ghost use Rattle.history_lock.specs.History.{Leads};
 
@@ -111,14 +114,11 @@ impl<T: Turned> TableRule<Slot<T, T::Call, T::Reply>, View<T, T::Entry>, Origin<
 }
 
 pub type Board<T> = Table<
-    Slot<T, <T as Turned>::Call, <T as Turned>::Reply>,
+    Slot<T, <T as Turned>::Entry>,
     View<T, <T as Turned>::Entry>,
     Origin<T>,
     Turns<T>,
     Global,
 >;
 
-pub type Place<T> = Seat<
-    Slot<T, <T as Turned>::Call, <T as Turned>::Reply>,
-    View<T, <T as Turned>::Entry>,
->;
+pub type Place<T> = Seat<Slot<T, <T as Turned>::Entry>, View<T, <T as Turned>::Entry>>;

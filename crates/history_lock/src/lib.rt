@@ -8,13 +8,16 @@
 //! Read [`Shared::apply`] first. Its clause `IsTurn` (`specs/Passes.antt`) says that the pass has now seen its old
 //! history, turns of others, and then its own turn, which is a step of the value that those before it left. `meet` and
 //! `join` compare what two passes have seen, and `close` gives the value with the whole history. `meet` and `join` take no
-//! runtime, so they wait for nobody: a mutex round the value and all passes could not have these signatures.
+//! runtime, so they wait for nobody: a mutex round the value and all passes could not have these signatures. [`Counter`] is
+//! an example of a value.
 //!
 //! `apply` spins, then yields, then sleeps until a turn ends. In `meet`, `join` and `close` nothing waits, and only
 //! `open` takes memory. No clause says that a turn comes, or in which order two passes that never met took theirs.
 #![tactic(auto)]
 
 mod board;
+mod chosen;
+mod counter;
 mod lock;
 mod meetings;
 mod opening;
@@ -26,6 +29,7 @@ mod tests;
 mod turned;
 mod turns;
 
+pub use counter::Counter;
 pub use lock::Shared;
 pub use pass::{Pass, Passes, Record};
 pub use turned::Turned;

@@ -1,7 +1,8 @@
-//! What one pass has seen reaches another, passes are joined, and a lock is closed.
-ghost use Rattle.std.specs.Prelude.{◌≡◌, ℕ, ◌+◌, ◌<◌, ◌⊎◌, [], length, ◌++◌};
+//! What one pass has seen reaches another, passes are joined, and a lock is closed. No call here takes a runtime, so none can
+//! wait: with one mutex round the value and all passes, `meet` and `join` could not have these signatures.
+ghost use Rattle.std.specs.Prelude.{◌≡◌, ℕ, ◌+◌, ◌<◌, ◌⊎◌, [], ◌++◌};
 ghost use mathlib.Core.List.{IsPrefix};
-ghost use Rattle.history_lock.specs.History.{entries, held, AreOwn, AreBelow, Leads, Runs};
+ghost use Rattle.history_lock.specs.History.{entries, held, StandsForAll, AreOwn, AreBelow, Leads, Runs};
 ghost use Rattle.history_lock.specs.Told.{IsResting, note_of, settled, both_of, longer};
 ghost use Rattle.history_lock.specs.Passes.{id_of, first_of, passes_of, lock_of, seen, shares, past, past_shares};
 
@@ -68,7 +69,7 @@ impl<T: Turned> Shared<T> {
     /// history, which leaves this value. It has the entries of each number, in their order, and no others.
     pub fn close(self, pass: Pass<T>) -> (T, Record<T>)
         requires lock { lock_of pass ≡ id_of self }
-        requires all { length (shares pass) ≡ passes_of self }
+        requires all { StandsForAll (passes_of self) (shares pass) }
         ensures past { (past result.1 ≡ seen pass) × (past_shares result.1 ≡ shares pass) }
         ensures value { Runs (Leads T.step) (first_of self) (entries (past result.1)) result.0 }
         ensures own { AreOwn (past result.1) (past_shares result.1) }

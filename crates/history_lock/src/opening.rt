@@ -29,10 +29,7 @@ fn lay<T: Turned>(
         passes: passes as u64,
     };
     let mut slots = Vec::new(alloc);
-    let slot = Slot {
-        value: Some(value),
-        asked: None,
-    };
+    let slot = Slot::of(value);
     if let Err(failed) = slots.push(slot) {
         slots.destroy_empty();
         return Err((failed.value.into_value(), AllocError));

@@ -9,7 +9,7 @@ use std::marker::PhantomData;
 
 pub(crate) struct Draw;
 
-impl<T, C, R, E> Play<Slot<T, C, R>, View<T, E>> for Draw {
+impl<T, E> Play<Slot<T, E>, View<T, E>> for Draw {
     ghost then = { drew };
 }
 
@@ -17,27 +17,25 @@ pub(crate) struct Look<T> {
     of: PhantomData<T>,
 }
 
-impl<T: Turned> Play<Slot<T, T::Call, T::Reply>, View<T, T::Entry>> for Look<T> {
+impl<T: Turned> Play<Slot<T, T::Entry>, View<T, T::Entry>> for Look<T> {
     ghost then = { looked (Leads T.step) };
 }
 
-pub(crate) struct Announce<T> {
-    of: PhantomData<T>,
-}
+pub(crate) struct Announce;
 
-impl<T: Turned> Play<Slot<T, T::Call, T::Reply>, View<T, T::Entry>> for Announce<T> {
-    ghost then = { announced T.entry_of };
+impl<T, E> Play<Slot<T, E>, View<T, E>> for Announce {
+    ghost then = { announced };
 }
 
 pub(crate) struct Publish;
 
-impl<T, C, R, E> Play<Slot<T, C, R>, View<T, E>> for Publish {
+impl<T, E> Play<Slot<T, E>, View<T, E>> for Publish {
     ghost then = { published };
 }
 
 pub(crate) struct Settle;
 
-impl<T, C, R, E> Play<Slot<T, C, R>, View<T, E>> for Settle {
+impl<T, E> Play<Slot<T, E>, View<T, E>> for Settle {
     ghost then = { settles };
 }
 

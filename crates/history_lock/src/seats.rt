@@ -3,7 +3,8 @@ ghost use Rattle.std.specs.Prelude.{◌≡◌, ℕ, ◌+◌, ◌%◌, ◌^◌, �
 ghost use Rattle.history_lock.specs.History.{Leads};
 ghost use Rattle.history_lock.specs.Told.{number_of, own_of, other_shares, IsResting, waiting, Arrives, IsServing, Serves};
 
-use crate::board::{Asked, Place, Slot};
+use crate::board::{Place, Slot};
+use crate::chosen::{Chosen, Taken};
 use crate::lock::Shared;
 use crate::plays::{Announce, Draw, Look, Publish};
 use crate::turned::Turned;
@@ -70,7 +71,7 @@ pub(crate) fn take_turn<T: Turned>(
     requires serving { IsServing (Leads T.step) lock.now.table.shared.key.first.value seat.old.me }
     requires call { T.may_take call }
     ensures table { (seat.new.table_id ≡ seat.old.table_id) × (seat.new.id ≡ seat.old.id) }
-    ensures turn { Serves T.step T.entry_of lock.now.table.shared.key.first.value seat.old.me call result seat.new.me }
+    ensures turn { Serves T.step lock.now.table.shared.key.first.value seat.old.me call result seat.new.me }
 {
     let table = &lock.table.shared;
     let mut value = table.exchange(seat, 0, Slot::empty()).into_value();
@@ -78,17 +79,18 @@ pub(crate) fn take_turn<T: Turned>(
     let asked = Snapshot::of(&call);
     let answer = value.turn(call);
     let reply = Snapshot::of(&answer);
-    let turn = Asked {
+    let new = Snapshot::of(&value);
+    let turn = Taken {
         old,
         call: asked,
         reply,
+        new,
     };
-    let back = Slot {
-        value: Some(value),
-        asked: Some(turn),
-    };
-    table.exchange(seat, 0, back).discard();
-    table.fetch_add::<Announce<T>>(seat, number + 2, 1);
+    let entry = Chosen::of(&turn);
+    // The value is still out, so a step can tell the entry from the slot.
+    table.exchange(seat, 0, Slot::noted(entry)).discard();
+    table.fetch_add::<Announce>(seat, number + 2, 1);
+    table.exchange(seat, 0, Slot::of(value)).discard();
     let served = table.fetch_add::<Publish>(seat, 1, 1);
     wake(lock, served);
     answer

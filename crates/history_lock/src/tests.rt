@@ -1,74 +1,102 @@
 //! Counters that threads add to.
-ghost use Rattle.std.specs.Prelude.{◌≡◌, ◌+◌, ◌%◌, ◌^◌, ◌<◌, length};
+ghost use Rattle.std.specs.Prelude.{◌≡◌, ℕ, ◌+◌, ◌*◌, ◌%◌, ◌^◌, ◌≤◌, length, IfSome};
 ghost use Rattle.std.specs.Thread.{IsSync};
-ghost use Rattle.history_lock.specs.Passes.{id_of, passes_of, lock_of, shares, lock_of_all, left_of};
+ghost use mathlib.Core.List.{IsPrefix};
+ghost use Rattle.history_lock.specs.Counter.{turns_of, added_of};
+ghost use Rattle.history_lock.specs.History.{held, StandsForAll};
+ghost use Rattle.history_lock.specs.Passes.{id_of, first_of, passes_of, lock_of, seen, shares, IsFresh, lock_of_all, all_of, left_of, taken_of, past};
+ghost use Rattle.history_lock.specs.Rule.{below};
 
-use crate::{Pass, Passes, Shared, Turned};
+use crate::{Counter, Pass, Passes, Record, Shared};
+use std::alloc::Global;
 use std::sync::Wait;
 use std::test::Fail;
 use std::thread::{Threads, join_mut};
 
-/// A sum that wraps.
-#[derive(Drop)]
-struct Counter {
-    sum: u64,
+// A lock over a counter at 0, and its two passes.
+fn with_two_passes(alloc: Global) -> Option<(Shared<Counter>, Pass<Counter>, Pass<Counter>)>
+    ensures lock { IfSome result (λ r. ((first_of r.0).sum ≡ 0) × (passes_of r.0 ≡ 2)) }
+    ensures passes { IfSome result (λ r. IsFresh (id_of r.0) 0 r.1 × IsFresh (id_of r.0) 1 r.2) }
+{
+    let Ok((lock, mut passes)) = Shared::open(alloc, Counter { sum: 0 }, 2) else {
+        return None;
+    };
+    let Some(one) = passes.take() else {
+        unreachable!()
+    };
+    let Some(two) = passes.take() else {
+        unreachable!()
+    };
+    passes.end();
+    Some((lock, one, two))
 }
 
-impl Turned for Counter {
-    type Call = u64;
+// The history is as long as the pass's own lists together, and the sum is theirs.
+fn close(lock: Shared<Counter>, pass: Pass<Counter>) -> (Counter, Record<Counter>)
+    requires lock { (lock_of pass ≡ id_of lock) × ((first_of lock).sum ≡ 0) }
+    requires all { StandsForAll (passes_of lock) (shares pass) }
+    ensures history { length (past result.1) ≡ turns_of (shares pass) }
+    ensures sum { result.0.sum ≡ added_of (shares pass) % 2 ^ 64 }
+{
+    lock.close(pass)
+}
 
-    type Reply = u64;
-
-    type Entry = u64;
-
-    ghost entry_of = { λ _ call _ _. call };
-
-    ghost step = { λ old call entry reply new. (entry ≡ call) × (reply ≡ (old.sum + call) % 2 ^ 64) × (new.sum ≡ reply) };
-
-    fn turn(&mut self, call: u64) -> u64 {
-        self.sum = self.sum.wrapping_add(call);
-        self.sum
-    }
+// Turns of both, a meeting, a joining and the end: 5, and a history of two turns.
+fn add_two_and_three<R: Wait>(
+    rt: &R,
+    lock: Shared<Counter>,
+    mut one: Pass<Counter>,
+    mut two: Pass<Counter>,
+) -> (Counter, Record<Counter>)
+    requires lock { ((first_of lock).sum ≡ 0) × (passes_of lock ≡ 2) }
+    requires passes { IsFresh (id_of lock) 0 one × IsFresh (id_of lock) 1 two }
+    ensures history { length (past result.1) ≡ 2 }
+    ensures sum { result.0.sum ≡ 5 }
+{
+    lock.apply(rt, &mut one, 2);
+    lock.apply(rt, &mut two, 3);
+    lock.meet(&mut one, &mut two);
+    lock.join(&mut one, two);
+    close(lock, one)
 }
 
 #[test]
 fn two_passes_over_a_counter(rt: HostRuntime) -> Result<(), Fail> {
-    let Ok((lock, mut passes)) = Shared::open(rt.alloc(), Counter { sum: 0 }, 2) else {
+    let Some((lock, one, two)) = with_two_passes(rt.alloc()) else {
         panic!(rt; "no memory")
     };
-    let Some(mut one) = passes.take() else {
-        panic!(rt; "no pass")
-    };
-    let Some(mut two) = passes.take() else {
-        panic!(rt; "no pass")
-    };
-    passes.end();
-    let first = lock.apply(&rt, &mut one, 2);
-    let second = lock.apply(&rt, &mut two, 3);
-    lock.meet(&mut one, &mut two);
-    lock.join(&mut one, two);
-    let (counter, _past) = lock.close(one);
-    assert!(rt; first == 2 && second == 5 && counter.sum == 5);
+    let (counter, _past) = add_two_and_three(&rt, lock, one, two);
+    assert!(rt; counter.sum == 5);
     Ok(())
+}
+
+// The second has then seen both turns.
+fn meet_then_apply<R: Wait>(
+    rt: &R,
+    lock: &Shared<Counter>,
+    one: &mut Pass<Counter>,
+    two: &mut Pass<Counter>,
+) -> u64
+    requires { (lock_of one.old ≡ id_of lock.now) × (lock_of two.old ≡ id_of lock.now) }
+    ensures lock { (lock_of one.new ≡ id_of lock.now) × (lock_of two.new ≡ id_of lock.now) }
+    ensures first { IsPrefix (seen one.new) (seen two.new) }
+    ensures both { length (seen one.old) + 2 ≤ length (seen two.new) }
+    ensures turns { (turns_of (shares one.new) ≡ turns_of (shares one.old) + 1) × (turns_of (shares two.new) ≡ turns_of (shares two.old) + 1) }
+    ensures numbers { (k : ℕ) → (held k (shares one.new) ≡ held k (shares one.old)) × (held k (shares two.new) ≡ held k (shares two.old)) }
+{
+    lock.apply(rt, one, 2);
+    lock.meet(one, two);
+    lock.apply(rt, two, 3)
 }
 
 #[test]
 fn a_turn_after_a_meeting_sees_the_turn_before_it(rt: HostRuntime) -> Result<(), Fail> {
-    let Ok((lock, mut passes)) = Shared::open(rt.alloc(), Counter { sum: 0 }, 2) else {
+    let Some((lock, mut one, mut two)) = with_two_passes(rt.alloc()) else {
         panic!(rt; "no memory")
     };
-    let Some(mut one) = passes.take() else {
-        panic!(rt; "no pass")
-    };
-    let Some(mut two) = passes.take() else {
-        panic!(rt; "no pass")
-    };
-    passes.end();
-    lock.apply(&rt, &mut one, 2);
-    lock.meet(&mut one, &mut two);
-    let reply = lock.apply(&rt, &mut two, 3);
+    let reply = meet_then_apply(&rt, &lock, &mut one, &mut two);
     lock.join(&mut one, two);
-    let (counter, _past) = lock.close(one);
+    let (counter, _past) = close(lock, one);
     assert!(rt; reply == 5 && counter.sum == 5);
     Ok(())
 }
@@ -95,11 +123,24 @@ fn no_pass_is_left_after_the_last(rt: HostRuntime) -> Result<(), Fail> {
 fn add_often<R: Wait>(rt: &R, lock: &Shared<Counter>, pass: &mut Pass<Counter>)
     requires { lock_of pass.old ≡ id_of lock.now }
     ensures lock { lock_of pass.new ≡ id_of lock.now }
-    ensures shares { length (shares pass.new) ≡ length (shares pass.old) }
+    ensures numbers { (k : ℕ) → held k (shares pass.new) ≡ held k (shares pass.old) }
+    ensures turns { turns_of (shares pass.new) ≡ turns_of (shares pass.old) + 1000 }
+    ensures added { added_of (shares pass.new) ≡ added_of (shares pass.old) + 1000 }
 {
-    for _ in 0..1000 {
+    for _ in 0..1000_u64 {
         lock.apply(rt, pass, 1);
     }
+}
+
+// What is joined adds up.
+fn take_in(lock: &Shared<Counter>, into: &mut Pass<Counter>, from: Pass<Counter>)
+    requires { (lock_of into.old ≡ id_of lock.now) × (lock_of from ≡ id_of lock.now) }
+    ensures lock { lock_of into.new ≡ id_of lock.now }
+    ensures numbers { (k : ℕ) → held k (shares into.new) ≡ held k (shares into.old) + held k (shares from) }
+    ensures turns { turns_of (shares into.new) ≡ turns_of (shares into.old) + turns_of (shares from) }
+    ensures added { added_of (shares into.new) ≡ added_of (shares into.old) + added_of (shares from) }
+{
+    lock.join(into, from);
 }
 
 // One thread for each pass. The first takes the others in.
@@ -111,7 +152,9 @@ fn add_all<R: Threads + Wait + Sync>(
 )
     requires { (lock_of first.old ≡ id_of lock.now) × (lock_of_all passes.old ≡ id_of lock.now) }
     ensures lock { lock_of first.new ≡ id_of lock.now }
-    ensures shares { length (shares first.new) ≡ length (shares first.old) + left_of passes.old }
+    ensures numbers { (k : ℕ) → held k (shares first.new) + below k (taken_of passes.old) ≡ held k (shares first.old) + below k (all_of passes.old) }
+    ensures turns { turns_of (shares first.new) ≡ turns_of (shares first.old) + 1000 + left_of passes.old * 1000 }
+    ensures added { added_of (shares first.new) ≡ added_of (shares first.old) + 1000 + left_of passes.old * 1000 }
     ensures left { left_of passes.new ≡ 0 }
 {
     let Some(mut next) = passes.take() else {
@@ -121,27 +164,48 @@ fn add_all<R: Threads + Wait + Sync>(
         rt,
         &mut ||
             requires { IsSync R.row × (lock_of first.now ≡ id_of lock.now) }
-            ensures { (lock_of first.exit.now ≡ id_of lock.entry.now) × (length (shares first.exit.now) ≡ length (shares first.entry.now)) }
+            ensures lock { lock_of first.exit.now ≡ id_of lock.entry.now }
+            ensures numbers { (k : ℕ) → held k (shares first.exit.now) ≡ held k (shares first.entry.now) }
+            ensures turns { turns_of (shares first.exit.now) ≡ turns_of (shares first.entry.now) + 1000 }
+            ensures added { added_of (shares first.exit.now) ≡ added_of (shares first.entry.now) + 1000 }
         { add_often(rt, lock, first) },
         &mut ||
             requires { IsSync R.row × (lock_of next ≡ id_of lock.now) × (lock_of_all passes.now ≡ id_of lock.now) }
-            ensures { (lock_of next.exit ≡ id_of lock.entry.now) × (length (shares next.exit) ≡ length (shares next.entry) + left_of passes.entry.now) × (left_of passes.exit.now ≡ 0) }
+            ensures lock { lock_of next.exit ≡ id_of lock.entry.now }
+            ensures numbers { (k : ℕ) → held k (shares next.exit) + below k (taken_of passes.entry.now) ≡ held k (shares next.entry) + below k (all_of passes.entry.now) }
+            ensures turns { turns_of (shares next.exit) ≡ turns_of (shares next.entry) + 1000 + left_of passes.entry.now * 1000 }
+            ensures added { added_of (shares next.exit) ≡ added_of (shares next.entry) + 1000 + left_of passes.entry.now * 1000 }
+            ensures left { left_of passes.exit.now ≡ 0 }
         { add_all(rt, lock, &mut next, passes) },
     );
-    lock.join(first, next);
+    take_in(lock, first, next);
+}
+
+// All passes of a lock over a counter at 0 add a thousand times each: the sum and the length of the history agree.
+fn add_all_and_close<R: Threads + Wait + Sync>(
+    rt: &R,
+    lock: Shared<Counter>,
+    mut passes: Passes<Counter>,
+) -> (Counter, Record<Counter>)
+    requires lock { ((first_of lock).sum ≡ 0) × (lock_of_all passes ≡ id_of lock) }
+    requires eight { (passes_of lock ≡ 8) × (all_of passes ≡ 8) × (left_of passes ≡ 8) }
+    ensures sum { result.0.sum ≡ 8000 }
+    ensures history { length (past result.1) ≡ 8000 }
+{
+    let Some(mut first) = passes.take() else {
+        unreachable!()
+    };
+    add_all(rt, &lock, &mut first, &mut passes);
+    passes.end();
+    close(lock, first)
 }
 
 #[test]
 fn eight_threads_add_a_thousand_times_each(rt: HostRuntime) -> Result<(), Fail> {
-    let Ok((lock, mut passes)) = Shared::open(rt.alloc(), Counter { sum: 0 }, 8) else {
+    let Ok((lock, passes)) = Shared::open(rt.alloc(), Counter { sum: 0 }, 8) else {
         panic!(rt; "no memory")
     };
-    let Some(mut first) = passes.take() else {
-        panic!(rt; "no pass")
-    };
-    add_all(&rt, &lock, &mut first, &mut passes);
-    passes.end();
-    let (counter, _past) = lock.close(first);
+    let (counter, _past) = add_all_and_close(&rt, lock, passes);
     assert!(rt; counter.sum == 8000);
     Ok(())
 }

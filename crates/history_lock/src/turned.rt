@@ -11,14 +11,11 @@ pub trait Turned {
     /// Which calls may be made.
     ghost may_take: { Self.Call → Type 0 } = { λ _. Unit {0} };
 
-    /// The entry of a turn, from the value before it, the call, the reply and the value after it.
-    ghost entry_of: { Self → Self.Call → Self.Reply → Self → Self.Entry };
-
     /// Which turns there are: the value before, the call, the entry, the reply and the value after.
     ghost step: { Self → Self.Call → Self.Entry → Self.Reply → Self → Type 0 };
 
     /// Takes one turn. It may end in any way that `step` allows.
     fn turn(&mut self, call: Self::Call) -> Self::Reply
         requires { may_take call }
-        ensures { step self.old call (entry_of self.old call result self.new) result self.new };
+        ensures { (entry : Self.Entry) × step self.old call entry result self.new };
 }

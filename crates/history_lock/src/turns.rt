@@ -16,7 +16,7 @@ impl<T: Turned> Shared<T> {
         requires lock { lock_of pass.old ≡ id_of self.now }
         requires call { T.may_take call }
         ensures lock { lock_of pass.new ≡ lock_of pass.old }
-        ensures turn { IsTurn T.step T.entry_of (first_of self.now) pass.old pass.new call result }
+        ensures turn { IsTurn T.step (first_of self.now) pass.old pass.new call result }
     {
         let number = pass.number;
         let ticket = draw(self, &mut pass.seat);

@@ -1,49 +1,54 @@
-use Rattle.std.proofs.Common.{◌≡◌, ◌+◌, ◌<◌, [], ◌∷◌, Some, refl, ap, ◌∙◌, arith}
+use Rattle.std.proofs.Common.{◌≡◌, ◌+◌, ◌<◌, [], ◌∷◌, ap, sym, ◌∙◌, arith}
 use Rattle.atomic_table.specs.Table.{rest}
-use Rattle.history_lock.specs.declared.board.Asked.{Asked}
-use Rattle.history_lock.specs.declared.board.Slot.{Slot}
 use Rattle.history_lock.specs.History.{Leads}
 use Rattle.history_lock.specs.Told.{own_of, other_shares, announcing, publishing}
 use Rattle.history_lock.proofs.Moves.{announces, publishes}
-use Rattle.history_lock.proofs.Turning.{in_hand, runs_on}
+use Rattle.history_lock.proofs.Turning.{in_hand, put_in, runs_on, alike}
 use Rattle.history_lock.proofs.seats.take_turn.Goals as goal
+
+pub of-entry-requires : goal.of-entry-requires
+of-entry-requires g c = (c.turn-answer.ensures.0, alike g.T.Turned.step (sym c.of-old.ensures) (sym c.of-asked.ensures) (sym c.of-reply.ensures) (sym c.of-new.ensures) c.turn-answer.ensures.1)
 
 pub fetch_add-requires : goal.fetch_add-requires
 fetch_add-requires g c =
     let first : g.row.T.Denot = c.args.lock.now.table.shared.key.first.value in
     let m = c.args.seat.now.me in
     let hand = in_hand (Leads g.T.Turned.step) first m c.exchange.result c.into_value-value.result c.requires.serving c.exchange.ensures.2 c.into_value-value.ensures in
-    let asked : Asked g.row.T.Denot g.row.T-Call.Denot g.row.T-Reply.Denot = record { old = c.of-old.result; call = c.of-asked.result; reply = c.of-reply.result } in
-    let back : Slot g.row.T.Denot g.row.T-Call.Denot g.row.T-Reply.Denot = record { value = Some c.turn-answer.new.self; asked = Some asked } in
-    let now = c.exchange.ensures.3 in
-    let here : c.exchange-2.new.seat.me ≡ (m.0, (0, back) ∷ []) = c.exchange-2.ensures.3 ∙ ((λ i. ((now i).0, (0, back) ∷ rest (now i).1)) ∙ ap (λ l. (m.0, (0, back) ∷ l)) hand.1) in
+    let noted = put_in m c.exchange.new.seat.me c.exchange-2.new.seat.me c.empty.result c.noted.result hand.1 c.exchange.ensures.3 c.exchange-2.ensures.3 in
     let words : c.args.seat.now.table_id.words ≡ c.args.lock.now.table.shared.table_id.words = ap (λ z. z.words) c.requires.table.0 in
     let inside : c.args.number + 2 < c.args.seat.now.table_id.words = c.requires.table.2 in (
       c.exchange-2.ensures.0 ∙ (c.exchange.ensures.0 ∙ c.requires.table.0),
       omega arith,
-      announces (Leads g.T.Turned.step) first c.args.lock.now.table.shared.key.passes g.T.Turned.entry_of _ _ c.exchange-2.new.seat.me c.args.number (own_of m.0.shares) (other_shares m.0.shares) c.turn-answer.new.self asked
-          (ap (λ x. x.0.come) here ∙ c.requires.serving.5) (ap (λ x. x.0.announced) here ∙ c.requires.serving.6) (ap (λ x. x.0.shares) here ∙ c.requires.number) (ap (λ x. x.1) here),
+      announces (Leads g.T.Turned.step) first c.args.lock.now.table.shared.key.passes _ _ c.exchange-2.new.seat.me c.args.number (own_of m.0.shares) (other_shares m.0.shares) c.noted.result c.of-entry.result
+          (ap (λ x. x.0.come) noted ∙ c.requires.serving.5) (ap (λ x. x.0.announced) noted ∙ c.requires.serving.6) (ap (λ x. x.0.shares) noted ∙ c.requires.number) (ap (λ x. x.1) noted) c.noted.ensures.1,
     )
+
+pub exchange-requires-3 : goal.exchange-requires-3
+exchange-requires-3 g c =
+    let first : g.row.T.Denot = c.args.lock.now.table.shared.key.first.value in
+    let m = c.args.seat.now.me in
+    let hand = in_hand (Leads g.T.Turned.step) first m c.exchange.result c.into_value-value.result c.requires.serving c.exchange.ensures.2 c.into_value-value.ensures in
+    let noted = put_in m c.exchange.new.seat.me c.exchange-2.new.seat.me c.empty.result c.noted.result hand.1 c.exchange.ensures.3 c.exchange-2.ensures.3 in
+    let e : g.row.T-Entry.Denot = c.of-entry.result.entry in
+    let told : c.fetch_add.new.seat.me ≡ (announcing m.0 e, (0, c.noted.result) ∷ []) = c.fetch_add.ensures.2 c.noted.result c.of-entry.result (ap (λ x. x.1) noted) c.noted.ensures.1 ∙ (λ i. (announcing (noted i).0 e, (noted i).1)) in
+    (c.fetch_add.ensures.0 ∙ (c.exchange-2.ensures.0 ∙ (c.exchange.ensures.0 ∙ c.requires.table.0)), (c.noted.result, (λ i. (told i).1) ∙ (λ i. (0, c.noted.result) ∷ rest (sym told i).1)))
 
 pub fetch_add-served-requires : goal.fetch_add-served-requires
 fetch_add-served-requires g c =
     let first : g.row.T.Denot = c.args.lock.now.table.shared.key.first.value in
     let m = c.args.seat.now.me in
     let hand = in_hand (Leads g.T.Turned.step) first m c.exchange.result c.into_value-value.result c.requires.serving c.exchange.ensures.2 c.into_value-value.ensures in
-    let asked : Asked g.row.T.Denot g.row.T-Call.Denot g.row.T-Reply.Denot = record { old = c.of-old.result; call = c.of-asked.result; reply = c.of-reply.result } in
-    let back : Slot g.row.T.Denot g.row.T-Call.Denot g.row.T-Reply.Denot = record { value = Some c.turn-answer.new.self; asked = Some asked } in
-    let now = c.exchange.ensures.3 in
-    let here : c.exchange-2.new.seat.me ≡ (m.0, (0, back) ∷ []) = c.exchange-2.ensures.3 ∙ ((λ i. ((now i).0, (0, back) ∷ rest (now i).1)) ∙ ap (λ l. (m.0, (0, back) ∷ l)) hand.1) in
-    let e : g.row.T-Entry.Denot = g.T.Turned.entry_of asked.old.value asked.call.value asked.reply.value c.turn-answer.new.self in
-    let told : c.fetch_add.new.seat.me ≡ (announcing m.0 e, (0, back) ∷ []) = c.fetch_add.ensures.2 c.turn-answer.new.self asked (ap (λ x. x.1) here) ∙ (λ i. (announcing (here i).0 e, (here i).1)) in
-    let e' : g.row.T-Entry.Denot = g.T.Turned.entry_of c.into_value-value.result c.args.call c.turn-answer.result c.turn-answer.new.self in
-    let alike : e ≡ e' = λ i. g.T.Turned.entry_of (c.of-old.ensures i) (c.of-asked.ensures i) (c.of-reply.ensures i) c.turn-answer.new.self in
+    let noted = put_in m c.exchange.new.seat.me c.exchange-2.new.seat.me c.empty.result c.noted.result hand.1 c.exchange.ensures.3 c.exchange-2.ensures.3 in
+    let e : g.row.T-Entry.Denot = c.of-entry.result.entry in
+    let told : c.fetch_add.new.seat.me ≡ (announcing m.0 e, (0, c.noted.result) ∷ []) = c.fetch_add.ensures.2 c.noted.result c.of-entry.result (ap (λ x. x.1) noted) c.noted.ensures.1 ∙ (λ i. (announcing (noted i).0 e, (noted i).1)) in
+    let back : c.exchange-3.new.seat.me ≡ (announcing m.0 e, (0, c.of.result) ∷ []) = c.exchange-3.ensures.3 ∙ (λ i. ((told i).0, (0, c.of.result) ∷ rest (told i).1)) in
     let words = c.args.lock.now.sized.0 in (
-      c.fetch_add.ensures.0 ∙ (c.exchange-2.ensures.0 ∙ (c.exchange.ensures.0 ∙ c.requires.table.0)),
+      c.exchange-3.ensures.0 ∙ (c.fetch_add.ensures.0 ∙ (c.exchange-2.ensures.0 ∙ (c.exchange.ensures.0 ∙ c.requires.table.0))),
       omega arith,
-      publishes (Leads g.T.Turned.step) first c.args.lock.now.table.shared.key.passes _ _ c.fetch_add.new.seat.me c.args.number (own_of m.0.shares) (other_shares m.0.shares) e back c.turn-answer.new.self
-          (ap (λ x. x.0.come) told ∙ c.requires.serving.5) (ap (λ x. x.0.announced) told) (ap (λ x. x.0.shares) told ∙ c.requires.number) (ap (λ x. x.1) told) refl
-          (runs_on g.T.Turned.step first m.0.seen c.fetch_add.new.seat.me.0.seen c.args.number c.into_value-value.result c.args.call e' e c.turn-answer.result c.turn-answer.new.self hand.0 c.turn-answer.ensures (ap (λ x. x.0.seen) told) alike),
+      publishes (Leads g.T.Turned.step) first c.args.lock.now.table.shared.key.passes _ _ c.exchange-3.new.seat.me c.args.number (own_of m.0.shares) (other_shares m.0.shares) e c.of.result c.turn-answer.new.self
+          (ap (λ x. x.0.come) back ∙ c.requires.serving.5) (ap (λ x. x.0.announced) back) (ap (λ x. x.0.shares) back ∙ c.requires.number) (ap (λ x. x.1) back) c.of.ensures.0
+          (runs_on g.T.Turned.step first m.0.seen c.exchange-3.new.seat.me.0.seen c.args.number c.into_value-value.result c.args.call e c.turn-answer.result c.turn-answer.new.self hand.0
+          (alike g.T.Turned.step c.of-old.ensures c.of-asked.ensures c.of-reply.ensures c.of-new.ensures c.of-entry.ensures) (ap (λ x. x.0.seen) back)),
     )
 
 pub returns-clause-turn : goal.returns-clause-turn
@@ -51,17 +56,14 @@ returns-clause-turn g c =
     let first : g.row.T.Denot = c.args.lock.now.table.shared.key.first.value in
     let m = c.args.seat.now.me in
     let hand = in_hand (Leads g.T.Turned.step) first m c.exchange.result c.into_value-value.result c.requires.serving c.exchange.ensures.2 c.into_value-value.ensures in
-    let asked : Asked g.row.T.Denot g.row.T-Call.Denot g.row.T-Reply.Denot = record { old = c.of-old.result; call = c.of-asked.result; reply = c.of-reply.result } in
-    let back : Slot g.row.T.Denot g.row.T-Call.Denot g.row.T-Reply.Denot = record { value = Some c.turn-answer.new.self; asked = Some asked } in
-    let now = c.exchange.ensures.3 in
-    let here : c.exchange-2.new.seat.me ≡ (m.0, (0, back) ∷ []) = c.exchange-2.ensures.3 ∙ ((λ i. ((now i).0, (0, back) ∷ rest (now i).1)) ∙ ap (λ l. (m.0, (0, back) ∷ l)) hand.1) in
-    let e : g.row.T-Entry.Denot = g.T.Turned.entry_of asked.old.value asked.call.value asked.reply.value c.turn-answer.new.self in
-    let told : c.fetch_add.new.seat.me ≡ (announcing m.0 e, (0, back) ∷ []) = c.fetch_add.ensures.2 c.turn-answer.new.self asked (ap (λ x. x.1) here) ∙ (λ i. (announcing (here i).0 e, (here i).1)) in
-    let e' : g.row.T-Entry.Denot = g.T.Turned.entry_of c.into_value-value.result c.args.call c.turn-answer.result c.turn-answer.new.self in
-    let alike : e ≡ e' = λ i. g.T.Turned.entry_of (c.of-old.ensures i) (c.of-asked.ensures i) (c.of-reply.ensures i) c.turn-answer.new.self in (
+    let noted = put_in m c.exchange.new.seat.me c.exchange-2.new.seat.me c.empty.result c.noted.result hand.1 c.exchange.ensures.3 c.exchange-2.ensures.3 in
+    let e : g.row.T-Entry.Denot = c.of-entry.result.entry in
+    let told : c.fetch_add.new.seat.me ≡ (announcing m.0 e, (0, c.noted.result) ∷ []) = c.fetch_add.ensures.2 c.noted.result c.of-entry.result (ap (λ x. x.1) noted) c.noted.ensures.1 ∙ (λ i. (announcing (noted i).0 e, (noted i).1)) in
+    let back : c.exchange-3.new.seat.me ≡ (announcing m.0 e, (0, c.of.result) ∷ []) = c.exchange-3.ensures.3 ∙ (λ i. ((told i).0, (0, c.of.result) ∷ rest (told i).1)) in (
       c.into_value-value.result,
+      e,
       c.turn-answer.new.self,
       hand.0,
-      c.turn-answer.ensures,
-      c.fetch_add-served.ensures.2 e (ap (λ x. x.0.announced) told) ∙ (λ i. (publishing (told i).0 (alike i), [])),
+      alike g.T.Turned.step c.of-old.ensures c.of-asked.ensures c.of-reply.ensures c.of-new.ensures c.of-entry.ensures,
+      c.fetch_add-served.ensures.2 e (ap (λ x. x.0.announced) back) ∙ ap (λ x. (publishing x.0 e, [])) back,
     )

@@ -2,8 +2,8 @@ use base.Fraction.{full_share}
 use denote.Builtin.{u64}
 use denote.Param.Send.{IsSend, IsSync, sendable, param_send, part_keyless}
 use Rattle.history_lock.specs.contracts.pass.Pass as pass
-use Rattle.history_lock.specs.contracts.tests.Counter as counter
-use Rattle.history_lock.specs.contracts.tests.CounterTurned.TheImpl.{ghosts}
+use Rattle.history_lock.specs.contracts.counter.Counter as counter
+use Rattle.history_lock.specs.contracts.counter.CounterTurned.TheImpl.{ghosts}
 use Rattle.history_lock.proofs.Crossing.{pass_send, lock_sync}
 use Rattle.history_lock.proofs.tests.+add_all+fn-add_all-join_mut+arg3.Lts-add_all as named
 use Rattle.history_lock.proofs.tests.+add_all+fn-add_all-join_mut+arg3.Goals as goal

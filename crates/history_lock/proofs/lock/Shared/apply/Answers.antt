@@ -14,21 +14,22 @@ returns-clause-turn g c =
     let served = c.take_turn.ensures.turn in
     let history : List (Entered g.row.T-Entry.Denot) = come.0 in
     let between : List (Entered g.row.T-Entry.Denot) = come.3.0 in
-    let e : g.row.T-Entry.Denot = g.T.Turned.entry_of served.0 c.args.call c.take_turn.result served.1 in
+    let e : g.row.T-Entry.Denot = served.1 in
     let there : c.wait_turn.new.seat.me.0 ≡ arrived (waiting v drawn.0) history = ap (λ m. m.0) come.4 ∙ ap (λ m. arrived m.0 history) drawn.2 in
-    let now : c.take_turn.new.seat.me.0 ≡ publishing (arrived (waiting v drawn.0) history) e = ap (λ m. m.0) served.4 ∙ ap (λ x. publishing x e) there in
+    let now : c.take_turn.new.seat.me.0 ≡ publishing (arrived (waiting v drawn.0) history) e = ap (λ m. m.0) served.5 ∙ ap (λ x. publishing x e) there in
     let parts : v.seen ++ between ≡ history = ap (λ m. m.0.seen ++ between) (sym drawn.2) ∙ come.3.1 in
     let led : Runs (Leads g.T.Turned.step) (first_of c.args.self.now) (entries (v.seen ++ between)) served.0 =
-    subst (λ h. Runs (Leads g.T.Turned.step) (first_of c.args.self.now) (entries h) served.0) (ap (λ x. x.seen) there ∙ sym parts) served.2 in
+    subst (λ h. Runs (Leads g.T.Turned.step) (first_of c.args.self.now) (entries h) served.0) (ap (λ x. x.seen) there ∙ sym parts) served.3 in
     let has_seen : c.take_turn.new.seat.me.0.seen ≡ (v.seen ++ between) ++ entered (number_of v.shares) e ∷ [] = ap (λ x. x.seen) now ∙ ap (λ h. h ++ entered (number_of v.shares) e ∷ []) (sym parts) in
     record {
       between = between;
       old = served.0;
-      new = served.1;
+      entry = e;
+      new = served.2;
       has_seen = has_seen;
       led = led;
-      stepped = served.3;
-      leads = subst (λ h. Runs (Leads g.T.Turned.step) (first_of c.args.self.now) (entries h) served.1) (sym has_seen)
-          (runs_on g.T.Turned.step (first_of c.args.self.now) (v.seen ++ between) (v.seen ++ between) (number_of v.shares) served.0 c.args.call e e c.take_turn.result served.1 led served.3 refl refl);
+      stepped = served.4;
+      leads = subst (λ h. Runs (Leads g.T.Turned.step) (first_of c.args.self.now) (entries h) served.2) (sym has_seen)
+          (runs_on g.T.Turned.step (first_of c.args.self.now) (v.seen ++ between) (v.seen ++ between) (number_of v.shares) served.0 c.args.call e c.take_turn.result served.2 led served.4 refl);
       has_own = ap (λ x. x.shares) now;
     }
