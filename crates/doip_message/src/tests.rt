@@ -1,7 +1,7 @@
 //! First segments with the request or the fault that each gives, and responses with their bytes.
 use super::*;
 use doip_json::{Bytes, Json, JsonFault, JsonMap, Str, read, text};
-use doip_segment::{Kind, Message, encode};
+use doip_segment::{Kind, Message};
 use std::alloc::{AllocError, Global};
 use std::test::Fail;
 
@@ -464,8 +464,11 @@ fn each_fixed_text_is_what_its_refusal_is_written_as(rt: HostRuntime) -> Result<
     ];
     for (status, message, want) in table {
         let refused = response(alloc, None, status, Some(message), Body::Nothing)?;
-        let written = encode(alloc, &response_message(alloc, &refused)?)?;
-        assert_eq!(rt; written.get(), want);
+        let made = response_message(alloc, &refused)?;
+        assert_eq!(rt; made.count(), 1);
+        let mut spelling = made.bytes(0).to_vec(alloc)?;
+        spelling.extend_from_slice(b"\n#\n#\n")?;
+        assert_eq!(rt; spelling.as_slice(), want);
     }
     assert_eq!(rt;
         MEMORY_TEXT,
