@@ -1,4 +1,4 @@
-use Rattle.std.proofs.Common.{◌≡◌, ◌<◌, ℕ, ◌+◌, List, length, reverse, take, sym, ◌∙◌, ap, subst, arith, rules}
+use Rattle.std.proofs.Common.{◌<◌, List, length, reverse, take, sym, ◌∙◌, ap, subst, rules}
 use Rattle.std.specs.List.{All}
 use Rattle.disk_core.specs.Past.{file_by, file_after, IsLeft}
 use Rattle.disk_core.specs.declared.record.Noted.{Noted}
