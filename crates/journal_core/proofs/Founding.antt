@@ -1,10 +1,10 @@
 -- What making a file leaves.
-use Rattle.std.proofs.Common.{◌≡◌, ◌≢◌, ◌⊎◌, inl, inr, ℕ, ◌+◌, ◌*◌, ◌≤◌, ◌<◌, max, List, [], ◌∷◌, ◌++◌, length, take, drop, replicate, Option, Some, Result, Ok, Err, OnOk, refl, sym, ◌∙◌, ap, subst, arith, length-append, length-drop}
+use Rattle.std.proofs.Common.{◌≡◌, ◌≢◌, ◌⊎◌, inl, inr, ℕ, ◌+◌, ◌≤◌, List, [], ◌∷◌, ◌++◌, length, take, drop, Result, Ok, Err, OnOk, refl, sym, ◌∙◌, ap, subst, arith, length-append, length-drop}
 use Rattle.std.proofs.lemmas.Bool.{cases_eq, cases_lt}
 use Rattle.std.proofs.lemmas.List.{append-nil, take_all, take_at, drop_at, drop_all}
-use Rattle.disk_core.specs.Disk.{written, Torn, Same, IsSettled}
-use Rattle.journal_core.specs.File.{header, HasHeader, base_of, inside_of, listed, HoldsAt, Holds, IsNotAStore}
-use Rattle.journal_core.specs.Stops.{Spans, Run}
+use Rattle.disk_core.specs.Disk.{written, Torn, Same}
+use Rattle.journal_core.specs.File.{header, base_of, inside_of, HoldsAt, Holds, IsNotAStore}
+use Rattle.journal_core.specs.Stops.{Spans}
 use Rattle.journal_core.specs.Init.{new_file, Founds}
 use Rattle.journal_core.proofs.Headers.{length-header}
 use Rattle.journal_core.proofs.Lists.{written_behind, torn_byte}

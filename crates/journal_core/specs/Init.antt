@@ -1,5 +1,5 @@
 -- What making a file leaves.
-use Rattle.std.specs.Prelude.{◌≡◌, ◌≢◌, ◌⊎◌, ◌↔◌, ℕ, ◌≤◌, ◌<◌, List, [], ◌∷◌, ◌++◌, length, drop, replicate}
+use Rattle.std.specs.Prelude.{◌≡◌, ◌≢◌, ◌⊎◌, ◌↔◌, ℕ, ◌≤◌, ◌<◌, List, [], ◌∷◌, ◌++◌, length, drop}
 use Rattle.journal_core.specs.File.{header, Holds, IsNotAStore}
 use Rattle.journal_core.specs.declared.create.InitFault.{InitFault}
 use Rattle.journal_core.specs.declared.create.InitFault.TheVariants.{NotEmpty, DiskFault}

@@ -1,4 +1,4 @@
-use Rattle.std.proofs.Common.{◌≡◌, ℕ, ◌≤◌, List, [], ◌∷◌, length, Some, refl, sym, ◌∙◌, ap, subst, arith, rules}
+use Rattle.std.proofs.Common.{◌≡◌, ℕ, ◌≤◌, List, [], length, Some, ◌∙◌, ap, subst, arith, rules}
 use Rattle.disk_core.specs.Disk.{written, Torn}
 use Rattle.journal_core.specs.File.{HoldsAt}
 use Rattle.journal_core.specs.Init.{new_file}
