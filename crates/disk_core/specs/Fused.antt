@@ -9,3 +9,7 @@ inner_of disk = disk.inner
 -- how many calls it lets pass yet
 abbrev pub passes_of : {D : Type 0} → FusedDisk D → ℕ
 passes_of disk = disk.passes
+
+-- how many it refused
+abbrev pub refused_of : {D : Type 0} → FusedDisk D → ℕ
+refused_of disk = disk.refused

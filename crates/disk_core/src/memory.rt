@@ -1,6 +1,6 @@
 //! A disk in memory. It keeps a record of its calls, so a stop may leave all that the disk model allows.
-ghost use Rattle.std.specs.Prelude.{◌≡◌, ◌≢◌, ◌==◌, ◌+◌, ◌<◌, ◌≤◌, ◌^◌, ◌∷◌, ◌++◌, [], true, if◌then◌else◌, Some, None, length, reverse, take, drop, IfOk, OnOk, OnErr};
-ghost use Rattle.disk_core.specs.Disk.{written, Same, Passes, IsSettled, HasCause};
+ghost use Rattle.std.specs.Prelude.{◌≡◌, ◌≢◌, ◌==◌, ◌⊎◌, ◌+◌, ◌<◌, ◌≤◌, ◌^◌, ◌∷◌, ◌++◌, [], if◌then◌else◌, Some, None, length, reverse, take, drop, is_ok, IfOk, OnOk, OnErr};
+ghost use Rattle.disk_core.specs.Disk.{written, Same, Passes, IsSettled, Rose, HasCause};
 ghost use Rattle.disk_core.specs.Past.{file_after};
 
 use crate::record::Log;
@@ -24,8 +24,8 @@ pub struct MemoryDisk {
 
 impl MemoryDisk {
     ghost use Rattle.std.specs.Option.{ForSome};
-    ghost use Rattle.disk_core.specs.Memory.{content_of, clock_of, left_by, faults_of, calls_of};
-    ghost use Rattle.std.specs.List.{All};
+    ghost use Rattle.disk_core.specs.Memory.{content_of, clock_of, left_by, faults_of, calls_of, failing_of, FailsNext, Notes};
+    ghost use Rattle.std.specs.List.{All, Contains};
 
     /// A disk with this file, all of it lasting, that fails the listed calls.
     pub fn new(
@@ -35,6 +35,8 @@ impl MemoryDisk {
     ) -> Result<MemoryDisk, AllocError>
         ensures told { IfOk result (λ disk. content_of disk ≡ Some contents.now) }
         ensures settled { IfOk result (λ disk. IsSettled (content_of disk) (left_by disk (clock_of disk))) }
+        ensures failing { IfOk result (λ disk. failing_of disk ≡ failing.now) }
+        ensures calls { IfOk result (λ disk. calls_of disk ≡ []) }
         ensures faults { IfOk result (λ disk. faults_of disk ≡ 0) }
     {
         let start = contents.to_vec(alloc)?;
@@ -67,11 +69,12 @@ impl MemoryDisk {
         &self.log.calls
     }
 
-    /// Some of the images that a stop may leave now, among them the file as it reads. A byte that was written since the
-    /// last sync is 0, 1, 2, 255 or what was written; a longer piece is missing, half written, whole, or all 255. So each
-    /// write since then multiplies them by four or five.
+    /// Some of the images that a stop may leave now. A byte that was written since the last sync is what was written, 0,
+    /// 1, 2 or 255; a longer piece is whole, missing, half written, or all 255. So each write since then multiplies them
+    /// by four or five. The last one is the file as it reads.
     pub fn images(&self) -> Result<Images, AllocError>
-        ensures { IfOk result (λ images. All (left_by self.now (clock_of self.now)) images) }
+        ensures left { IfOk result (λ images. All (left_by self.now (clock_of self.now)) images) }
+        ensures file { IfOk result (λ images. ForSome (content_of self.now) (λ file. Contains images file)) }
     {
         let alloc = self.log.alloc;
         let mut file = self.start.to_vec(alloc)?;
@@ -80,13 +83,18 @@ impl MemoryDisk {
         'calls: for noted in &self.log.calls {
             images = images_after(alloc, &images, &mut file, noted)?;
         }
+        images.push(Bytes::of(alloc, &file)?)?;
         Ok(images)
     }
 
     // A call that doesn't change the file.
     fn pass(&mut self, call: DiskCall, place: u64) -> Result<(), Failed>
         requires { call ≢ DiskCall.WriteAt }
-        ensures ok { OnOk result ((self.new.starved ≡ self.old.starved) × (self.new.log.calls.items ≡ self.old.log.calls.items ++ (record { call = call; done = true; place = place; bytes = [] }) ∷ [])) }
+        ensures ok { OnOk result (self.new.starved ≡ self.old.starved) }
+        ensures failing { failing_of self.new ≡ failing_of self.old }
+        ensures noted { Notes self.old self.new (record { call = call; done = is_ok result; place = place; bytes = [] }) }
+        ensures listed { OnErr result (FailsNext self.old call ⊎ Rose self.old.starved self.new.starved) }
+        ensures passed { OnOk result (FailsNext self.old call → ⊥) }
         ensures file { self.new.file ≡ self.old.file }
         ensures start { self.new.start ≡ self.old.start }
         ensures told { ForSome (content_of self.new) (λ file. content_of self.old ≡ Some file) }
@@ -131,7 +139,10 @@ fn put(file: &mut [u8], place: usize, piece: &[u8])
 impl Disk for MemoryDisk {
     ghost use Rattle.std.specs.Prelude.{ℕ, List};
     ghost use Rattle.std.proofs.Common.{subst};
-    ghost use Rattle.disk_core.specs.Memory.{content_of, clock_of, left_by, faults_of};
+    ghost use Rattle.std.specs.Option.{ForSome, option_map, IsSome};
+    ghost use Rattle.std.specs.Prelude.{IsOk};
+    ghost use Rattle.disk_core.specs.Disk.{Torn, Syncs, Never};
+    ghost use Rattle.disk_core.specs.Memory.{content_of, clock_of, left_by, synced_by, faults_of, failing_of, FailsNext, Notes};
     ghost use Rattle.disk_core.specs.Past.{IsLeftAt};
     ghost use Rattle.disk_core.specs.PastLaws.{memory_reads};
 
@@ -141,16 +152,49 @@ impl Disk for MemoryDisk {
 
     ghost left_at = { left_by };
 
+    ghost synced = { synced_by };
+
     ghost faults = { faults_of };
 
     ghost reads_as_image = { λ disk file is. memory_reads disk.starved disk.start.items disk.log.calls.items disk.file.items file disk.reads is };
 
-    fn length(&mut self) -> Result<u64, Failed> {
+    fn length(&mut self) -> Result<u64, Failed>
+        ensures value { IfOk result (λ n. ForSome (content_of self.old) (λ file. n ≡ length file)) }
+        ensures same { OnOk result (content_of self.new ≡ content_of self.old) }
+        ensures told { ForSome (content_of self.new) (λ file. content_of self.old ≡ Some file) }
+        ensures clock { clock_of self.old ≤ clock_of self.new }
+        ensures stop { ForSome (content_of self.new) (λ _. Passes (clock_of self.old) (clock_of self.new) (left_by self.old) (left_by self.new) Same) }
+        ensures syncs { ForSome (content_of self.new) (λ _. Syncs (clock_of self.old) (synced_by self.old) (synced_by self.new) Never) }
+        ensures cause { HasCause (faults_of self.old) (faults_of self.new) result }
+
+        // It fails exactly where its list says so, or where it finds no memory for its record.
+        ensures listed { OnErr result (FailsNext self.old DiskCall.Length ⊎ Rose self.old.starved self.new.starved) }
+        ensures passed { OnOk result (FailsNext self.old DiskCall.Length → ⊥) }
+        ensures failing { failing_of self.new ≡ failing_of self.old }
+        ensures noted { Notes self.old self.new (record { call = DiskCall.Length; done = is_ok result; place = 0; bytes = [] }) }
+    {
         self.pass(DiskCall::Length, 0)?;
         Ok(self.file.len() as u64)
     }
 
-    fn read_at(&mut self, place: u64, into: &mut [u8]) -> Result<usize, Failed> {
+    fn read_at(&mut self, place: u64, into: &mut [u8]) -> Result<usize, Failed>
+        ensures bound { IfOk result (λ n. n ≤ length into.new) }
+        ensures bytes { IfOk result (λ n. ForSome (content_of self.old) (λ file. take n into.new ≡ take n (drop place file))) }
+        ensures within { IfOk result (λ n. ForSome (content_of self.old) (λ file. n ≤ length (drop place file))) }
+        ensures ended { IfOk result (λ n. ForSome (content_of self.old) (λ file. n ≡ 0 → 0 < length into.new → length file ≤ place)) }
+        ensures same { OnOk result (content_of self.new ≡ content_of self.old) }
+        ensures told { ForSome (content_of self.new) (λ file. content_of self.old ≡ Some file) }
+        ensures clock { clock_of self.old ≤ clock_of self.new }
+        ensures stop { ForSome (content_of self.new) (λ _. Passes (clock_of self.old) (clock_of self.new) (left_by self.old) (left_by self.new) Same) }
+        ensures syncs { ForSome (content_of self.new) (λ _. Syncs (clock_of self.old) (synced_by self.old) (synced_by self.new) Never) }
+        ensures cause { HasCause (faults_of self.old) (faults_of self.new) result }
+
+        // It fails exactly where its list says so, or where it finds no memory for its record.
+        ensures listed { OnErr result (FailsNext self.old DiskCall.ReadAt ⊎ Rose self.old.starved self.new.starved) }
+        ensures passed { OnOk result (FailsNext self.old DiskCall.ReadAt → ⊥) }
+        ensures failing { failing_of self.new ≡ failing_of self.old }
+        ensures noted { Notes self.old self.new (record { call = DiskCall.ReadAt; done = is_ok result; place = place; bytes = [] }) }
+    {
         self.pass(DiskCall::ReadAt, place)?;
         let size = self.file.len();
         if place >= size as u64 {
@@ -162,7 +206,20 @@ impl Disk for MemoryDisk {
         Ok(count)
     }
 
-    fn write_at(&mut self, place: u64, piece: &[u8]) -> Result<(), Failed> {
+    fn write_at(&mut self, place: u64, piece: &[u8]) -> Result<(), Failed>
+        ensures written { OnOk result (content_of self.new ≡ option_map (written place piece.now) (content_of self.old)) }
+        ensures told { ForSome (content_of self.new) (λ _. IsSome (content_of self.old)) }
+        ensures clock { clock_of self.old ≤ clock_of self.new }
+        ensures stop { ForSome (content_of self.new) (λ _. Passes (clock_of self.old) (clock_of self.new) (left_by self.old) (left_by self.new) (Torn place (length piece.now))) }
+        ensures syncs { ForSome (content_of self.new) (λ _. Syncs (clock_of self.old) (synced_by self.old) (synced_by self.new) Never) }
+        ensures cause { HasCause (faults_of self.old) (faults_of self.new) result }
+
+        // It fails exactly where its list says so, or where it finds no memory for its record.
+        ensures listed { OnErr result (FailsNext self.old DiskCall.WriteAt ⊎ Rose self.old.starved self.new.starved) }
+        ensures passed { OnOk result (FailsNext self.old DiskCall.WriteAt → ⊥) }
+        ensures failing { failing_of self.new ≡ failing_of self.old }
+        ensures noted { Notes self.old self.new (record { call = DiskCall.WriteAt; done = is_ok result; place = place; bytes = piece.now }) }
+    {
         match self.log.enter(DiskCall::WriteAt, place, piece) {
             Ok(true) => {}
             Ok(false) => return Err(Failed),
@@ -178,7 +235,21 @@ impl Disk for MemoryDisk {
         Ok(())
     }
 
-    fn sync(&mut self) -> Result<(), Failed> {
+    fn sync(&mut self) -> Result<(), Failed>
+        ensures settled { OnOk result (IsSettled (content_of self.new) (left_by self.new (clock_of self.new))) }
+        ensures same { OnOk result (content_of self.new ≡ content_of self.old) }
+        ensures told { ForSome (content_of self.new) (λ _. IsSome (content_of self.old)) }
+        ensures clock { clock_of self.old ≤ clock_of self.new }
+        ensures stop { ForSome (content_of self.new) (λ _. Passes (clock_of self.old) (clock_of self.new) (left_by self.old) (left_by self.new) Same) }
+        ensures syncs { ForSome (content_of self.new) (λ _. Syncs (clock_of self.old) (synced_by self.old) (synced_by self.new) (λ time. IsOk result × (time ≡ clock_of self.new))) }
+        ensures cause { HasCause (faults_of self.old) (faults_of self.new) result }
+
+        // It fails exactly where its list says so, or where it finds no memory for its record.
+        ensures listed { OnErr result (FailsNext self.old DiskCall.Sync ⊎ Rose self.old.starved self.new.starved) }
+        ensures passed { OnOk result (FailsNext self.old DiskCall.Sync → ⊥) }
+        ensures failing { failing_of self.new ≡ failing_of self.old }
+        ensures noted { Notes self.old self.new (record { call = DiskCall.Sync; done = is_ok result; place = 0; bytes = [] }) }
+    {
         self.pass(DiskCall::Sync, 0)
     }
 }
