@@ -1,6 +1,7 @@
 -- What a disk in memory shows.
-use Rattle.std.specs.Prelude.{◌≡◌, ℕ, ◌+◌, List, [], ◌∷◌, ◌++◌, length, Option, Some, None, if◌then◌else◌, ◌==◌, Contains}
+use Rattle.std.specs.Prelude.{◌≡◌, ◌⊎◌, ℕ, ◌+◌, List, [], ◌∷◌, ◌++◌, length, Option, Some, None, if◌then◌else◌, ◌==◌, Contains, Result, is_ok, OnOk, OnErr}
 use Rattle.std.specs.Option.{ForSome}
+use Rattle.disk_core.specs.Disk.{Rose}
 use Rattle.disk_core.specs.Past.{IsLeftAt, IsSyncedAt, count_of}
 use Rattle.disk_core.specs.declared.record.DiskCall.{DiskCall}
 use Rattle.disk_core.specs.declared.record.Failing.{Failing}
@@ -42,3 +43,10 @@ FailsNext disk call = Contains (failing_of disk) (record { call = call; nth = co
 -- where memory was found for it, the record is longer by this call
 abbrev pub Notes : MemoryDisk → MemoryDisk → Noted → Type 0
 Notes old new noted = ForSome (content_of new) (λ _. calls_of new ≡ calls_of old ++ noted ∷ [])
+
+-- A call fails exactly where the list says so, or where it finds no memory for the record. Else the record is longer by it.
+pub record FollowsList {T E : Type 0} (old new : MemoryDisk) (call : DiskCall) (place : ℕ) (piece : List ℕ) (result : Result T E) : Type 0 where
+  pub listed : OnErr result (FailsNext old call ⊎ Rose old.starved new.starved)
+  pub passed : OnOk result (FailsNext old call → ⊥)
+  pub same_list : failing_of new ≡ failing_of old
+  pub noted : Notes old new (record { call = call; done = is_ok result; place = place; bytes = piece })

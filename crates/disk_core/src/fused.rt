@@ -71,10 +71,10 @@ impl<D: Disk> FusedDisk<D> {
 }
 
 impl<D: Disk> Disk for FusedDisk<D> {
-    ghost use Rattle.std.specs.Prelude.{◌^◌, ℕ, List, Some, length, take, drop, IfOk, IsOk, IsErr};
+    ghost use Rattle.std.specs.Prelude.{◌^◌, ℕ, List, Some, length, take, drop, IfOk, IsOk};
     ghost use Rattle.std.specs.Option.{option_map, IsSome};
     ghost use Rattle.disk_core.specs.Disk.{written, Torn, IsSettled, HasCause};
-    ghost use Rattle.disk_core.specs.Fused.{inner_of, passes_of, refused_of};
+    ghost use Rattle.disk_core.specs.Fused.{inner_of, refused_of, Fuses};
 
     ghost content = { λ disk. D.content disk.inner };
 
@@ -96,11 +96,7 @@ impl<D: Disk> Disk for FusedDisk<D> {
         ensures stop { ForSome (D.content (inner_of self.new)) (λ _. Passes (D.moment (inner_of self.old)) (D.moment (inner_of self.new)) (D.left_at (inner_of self.old)) (D.left_at (inner_of self.new)) Same) }
         ensures syncs { ForSome (D.content (inner_of self.new)) (λ _. Syncs (D.moment (inner_of self.old)) (D.synced (inner_of self.old)) (D.synced (inner_of self.new)) Never) }
         ensures cause { HasCause (D.faults (inner_of self.old) + refused_of self.old) (D.faults (inner_of self.new) + refused_of self.new) result }
-
-        // It lets so many calls pass, and fails each one after.
-        ensures passes { passes_of self.new ≡ passes_of self.old - 1 }
-        ensures lets { 0 < passes_of self.old → OnErr result (Rose (D.faults (inner_of self.old)) (D.faults (inner_of self.new))) }
-        ensures spent { passes_of self.old ≡ 0 → IsErr result }
+        ensures fused { Fuses D.faults self.old self.new result }
     {
         self.spend()?;
         self.inner.length()
@@ -117,11 +113,7 @@ impl<D: Disk> Disk for FusedDisk<D> {
         ensures stop { ForSome (D.content (inner_of self.new)) (λ _. Passes (D.moment (inner_of self.old)) (D.moment (inner_of self.new)) (D.left_at (inner_of self.old)) (D.left_at (inner_of self.new)) Same) }
         ensures syncs { ForSome (D.content (inner_of self.new)) (λ _. Syncs (D.moment (inner_of self.old)) (D.synced (inner_of self.old)) (D.synced (inner_of self.new)) Never) }
         ensures cause { HasCause (D.faults (inner_of self.old) + refused_of self.old) (D.faults (inner_of self.new) + refused_of self.new) result }
-
-        // It lets so many calls pass, and fails each one after.
-        ensures passes { passes_of self.new ≡ passes_of self.old - 1 }
-        ensures lets { 0 < passes_of self.old → OnErr result (Rose (D.faults (inner_of self.old)) (D.faults (inner_of self.new))) }
-        ensures spent { passes_of self.old ≡ 0 → IsErr result }
+        ensures fused { Fuses D.faults self.old self.new result }
     {
         self.spend()?;
         self.inner.read_at(place, into)
@@ -135,11 +127,7 @@ impl<D: Disk> Disk for FusedDisk<D> {
         ensures stop { ForSome (D.content (inner_of self.new)) (λ _. Passes (D.moment (inner_of self.old)) (D.moment (inner_of self.new)) (D.left_at (inner_of self.old)) (D.left_at (inner_of self.new)) (Torn place (length piece.now))) }
         ensures syncs { ForSome (D.content (inner_of self.new)) (λ _. Syncs (D.moment (inner_of self.old)) (D.synced (inner_of self.old)) (D.synced (inner_of self.new)) Never) }
         ensures cause { HasCause (D.faults (inner_of self.old) + refused_of self.old) (D.faults (inner_of self.new) + refused_of self.new) result }
-
-        // It lets so many calls pass, and fails each one after.
-        ensures passes { passes_of self.new ≡ passes_of self.old - 1 }
-        ensures lets { 0 < passes_of self.old → OnErr result (Rose (D.faults (inner_of self.old)) (D.faults (inner_of self.new))) }
-        ensures spent { passes_of self.old ≡ 0 → IsErr result }
+        ensures fused { Fuses D.faults self.old self.new result }
     {
         self.spend()?;
         self.inner.write_at(place, piece)
@@ -153,11 +141,7 @@ impl<D: Disk> Disk for FusedDisk<D> {
         ensures stop { ForSome (D.content (inner_of self.new)) (λ _. Passes (D.moment (inner_of self.old)) (D.moment (inner_of self.new)) (D.left_at (inner_of self.old)) (D.left_at (inner_of self.new)) Same) }
         ensures syncs { ForSome (D.content (inner_of self.new)) (λ _. Syncs (D.moment (inner_of self.old)) (D.synced (inner_of self.old)) (D.synced (inner_of self.new)) (λ time. IsOk result × (time ≡ D.moment (inner_of self.new)))) }
         ensures cause { HasCause (D.faults (inner_of self.old) + refused_of self.old) (D.faults (inner_of self.new) + refused_of self.new) result }
-
-        // It lets so many calls pass, and fails each one after.
-        ensures passes { passes_of self.new ≡ passes_of self.old - 1 }
-        ensures lets { 0 < passes_of self.old → OnErr result (Rose (D.faults (inner_of self.old)) (D.faults (inner_of self.new))) }
-        ensures spent { passes_of self.old ≡ 0 → IsErr result }
+        ensures fused { Fuses D.faults self.old self.new result }
     {
         self.spend()?;
         self.inner.sync()

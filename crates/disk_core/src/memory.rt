@@ -24,7 +24,7 @@ pub struct MemoryDisk {
 
 impl MemoryDisk {
     ghost use Rattle.std.specs.Option.{ForSome};
-    ghost use Rattle.disk_core.specs.Memory.{content_of, clock_of, left_by, faults_of, calls_of, failing_of, FailsNext, Notes};
+    ghost use Rattle.disk_core.specs.Memory.{content_of, clock_of, left_by, faults_of, calls_of, failing_of, FollowsList};
     ghost use Rattle.std.specs.List.{All, Contains};
 
     /// A disk with this file, all of it lasting, that fails the listed calls.
@@ -91,10 +91,7 @@ impl MemoryDisk {
     fn pass(&mut self, call: DiskCall, place: u64) -> Result<(), Failed>
         requires { call ≢ DiskCall.WriteAt }
         ensures ok { OnOk result (self.new.starved ≡ self.old.starved) }
-        ensures failing { failing_of self.new ≡ failing_of self.old }
-        ensures noted { Notes self.old self.new (record { call = call; done = is_ok result; place = place; bytes = [] }) }
-        ensures listed { OnErr result (FailsNext self.old call ⊎ Rose self.old.starved self.new.starved) }
-        ensures passed { OnOk result (FailsNext self.old call → ⊥) }
+        ensures listed { FollowsList self.old self.new call place [] result }
         ensures file { self.new.file ≡ self.old.file }
         ensures start { self.new.start ≡ self.old.start }
         ensures told { ForSome (content_of self.new) (λ file. content_of self.old ≡ Some file) }
@@ -142,7 +139,7 @@ impl Disk for MemoryDisk {
     ghost use Rattle.std.specs.Option.{ForSome, option_map, IsSome};
     ghost use Rattle.std.specs.Prelude.{IsOk};
     ghost use Rattle.disk_core.specs.Disk.{Torn, Syncs, Never};
-    ghost use Rattle.disk_core.specs.Memory.{content_of, clock_of, left_by, synced_by, faults_of, failing_of, FailsNext, Notes};
+    ghost use Rattle.disk_core.specs.Memory.{content_of, clock_of, left_by, synced_by, faults_of, FollowsList};
     ghost use Rattle.disk_core.specs.Past.{IsLeftAt};
     ghost use Rattle.disk_core.specs.PastLaws.{memory_reads};
 
@@ -166,12 +163,7 @@ impl Disk for MemoryDisk {
         ensures stop { ForSome (content_of self.new) (λ _. Passes (clock_of self.old) (clock_of self.new) (left_by self.old) (left_by self.new) Same) }
         ensures syncs { ForSome (content_of self.new) (λ _. Syncs (clock_of self.old) (synced_by self.old) (synced_by self.new) Never) }
         ensures cause { HasCause (faults_of self.old) (faults_of self.new) result }
-
-        // It fails exactly where its list says so, or where it finds no memory for its record.
-        ensures listed { OnErr result (FailsNext self.old DiskCall.Length ⊎ Rose self.old.starved self.new.starved) }
-        ensures passed { OnOk result (FailsNext self.old DiskCall.Length → ⊥) }
-        ensures failing { failing_of self.new ≡ failing_of self.old }
-        ensures noted { Notes self.old self.new (record { call = DiskCall.Length; done = is_ok result; place = 0; bytes = [] }) }
+        ensures listed { FollowsList self.old self.new DiskCall.Length 0 [] result }
     {
         self.pass(DiskCall::Length, 0)?;
         Ok(self.file.len() as u64)
@@ -188,12 +180,7 @@ impl Disk for MemoryDisk {
         ensures stop { ForSome (content_of self.new) (λ _. Passes (clock_of self.old) (clock_of self.new) (left_by self.old) (left_by self.new) Same) }
         ensures syncs { ForSome (content_of self.new) (λ _. Syncs (clock_of self.old) (synced_by self.old) (synced_by self.new) Never) }
         ensures cause { HasCause (faults_of self.old) (faults_of self.new) result }
-
-        // It fails exactly where its list says so, or where it finds no memory for its record.
-        ensures listed { OnErr result (FailsNext self.old DiskCall.ReadAt ⊎ Rose self.old.starved self.new.starved) }
-        ensures passed { OnOk result (FailsNext self.old DiskCall.ReadAt → ⊥) }
-        ensures failing { failing_of self.new ≡ failing_of self.old }
-        ensures noted { Notes self.old self.new (record { call = DiskCall.ReadAt; done = is_ok result; place = place; bytes = [] }) }
+        ensures listed { FollowsList self.old self.new DiskCall.ReadAt place [] result }
     {
         self.pass(DiskCall::ReadAt, place)?;
         let size = self.file.len();
@@ -208,17 +195,13 @@ impl Disk for MemoryDisk {
 
     fn write_at(&mut self, place: u64, piece: &[u8]) -> Result<(), Failed>
         ensures written { OnOk result (content_of self.new ≡ option_map (written place piece.now) (content_of self.old)) }
+        ensures refused { OnErr result (ForSome (content_of self.new) (λ file. content_of self.old ≡ Some file)) }
         ensures told { ForSome (content_of self.new) (λ _. IsSome (content_of self.old)) }
         ensures clock { clock_of self.old ≤ clock_of self.new }
         ensures stop { ForSome (content_of self.new) (λ _. Passes (clock_of self.old) (clock_of self.new) (left_by self.old) (left_by self.new) (Torn place (length piece.now))) }
         ensures syncs { ForSome (content_of self.new) (λ _. Syncs (clock_of self.old) (synced_by self.old) (synced_by self.new) Never) }
         ensures cause { HasCause (faults_of self.old) (faults_of self.new) result }
-
-        // It fails exactly where its list says so, or where it finds no memory for its record.
-        ensures listed { OnErr result (FailsNext self.old DiskCall.WriteAt ⊎ Rose self.old.starved self.new.starved) }
-        ensures passed { OnOk result (FailsNext self.old DiskCall.WriteAt → ⊥) }
-        ensures failing { failing_of self.new ≡ failing_of self.old }
-        ensures noted { Notes self.old self.new (record { call = DiskCall.WriteAt; done = is_ok result; place = place; bytes = piece.now }) }
+        ensures listed { FollowsList self.old self.new DiskCall.WriteAt place piece.now result }
     {
         match self.log.enter(DiskCall::WriteAt, place, piece) {
             Ok(true) => {}
@@ -238,17 +221,13 @@ impl Disk for MemoryDisk {
     fn sync(&mut self) -> Result<(), Failed>
         ensures settled { OnOk result (IsSettled (content_of self.new) (left_by self.new (clock_of self.new))) }
         ensures same { OnOk result (content_of self.new ≡ content_of self.old) }
+        ensures refused { OnErr result (ForSome (content_of self.new) (λ file. content_of self.old ≡ Some file)) }
         ensures told { ForSome (content_of self.new) (λ _. IsSome (content_of self.old)) }
         ensures clock { clock_of self.old ≤ clock_of self.new }
         ensures stop { ForSome (content_of self.new) (λ _. Passes (clock_of self.old) (clock_of self.new) (left_by self.old) (left_by self.new) Same) }
         ensures syncs { ForSome (content_of self.new) (λ _. Syncs (clock_of self.old) (synced_by self.old) (synced_by self.new) (λ time. IsOk result × (time ≡ clock_of self.new))) }
         ensures cause { HasCause (faults_of self.old) (faults_of self.new) result }
-
-        // It fails exactly where its list says so, or where it finds no memory for its record.
-        ensures listed { OnErr result (FailsNext self.old DiskCall.Sync ⊎ Rose self.old.starved self.new.starved) }
-        ensures passed { OnOk result (FailsNext self.old DiskCall.Sync → ⊥) }
-        ensures failing { failing_of self.new ≡ failing_of self.old }
-        ensures noted { Notes self.old self.new (record { call = DiskCall.Sync; done = is_ok result; place = 0; bytes = [] }) }
+        ensures listed { FollowsList self.old self.new DiskCall.Sync 0 [] result }
     {
         self.pass(DiskCall::Sync, 0)
     }
