@@ -71,7 +71,7 @@ impl<D: Disk> FusedDisk<D> {
 }
 
 impl<D: Disk> Disk for FusedDisk<D> {
-    ghost use Rattle.std.specs.Prelude.{◌^◌, ℕ, List, Some, length, take, drop, IfOk, IsOk};
+    ghost use Rattle.std.specs.Prelude.{◌^◌, Some, length, take, drop, IfOk, IsOk};
     ghost use Rattle.std.specs.Option.{option_map, IsSome};
     ghost use Rattle.disk_core.specs.Disk.{written, Torn, IsSettled, HasCause};
     ghost use Rattle.disk_core.specs.Fused.{inner_of, refused_of, Fuses};

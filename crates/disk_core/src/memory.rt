@@ -1,6 +1,6 @@
 //! A disk in memory. It keeps a record of its calls, so a stop may leave all that the disk model allows.
-ghost use Rattle.std.specs.Prelude.{◌≡◌, ◌≢◌, ◌==◌, ◌⊎◌, ◌+◌, ◌<◌, ◌≤◌, ◌^◌, ◌∷◌, ◌++◌, [], if◌then◌else◌, Some, None, length, reverse, take, drop, is_ok, IfOk, OnOk, OnErr};
-ghost use Rattle.disk_core.specs.Disk.{written, Same, Passes, IsSettled, Rose, HasCause};
+ghost use Rattle.std.specs.Prelude.{◌≡◌, ◌≢◌, ◌==◌, ◌+◌, ◌<◌, ◌≤◌, ◌^◌, ◌∷◌, ◌++◌, [], if◌then◌else◌, Some, None, length, reverse, take, drop, IfOk, OnOk, OnErr};
+ghost use Rattle.disk_core.specs.Disk.{written, Same, Passes, IsSettled, HasCause};
 ghost use Rattle.disk_core.specs.Past.{file_after};
 
 use crate::record::Log;
