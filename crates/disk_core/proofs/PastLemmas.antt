@@ -1,8 +1,8 @@
 -- One more call in a record.
-use Rattle.std.proofs.Common.{◌≡◌, ◌≢◌, ◌↔◌, ℕ, ◌+◌, ◌<◌, ◌≤◌, Bool, true, false, List, [], ◌∷◌, ◌++◌, length, reverse, take, refl, sym, ◌∙◌, ap, subst, arith, length-append}
+use Rattle.std.proofs.Common.{◌≡◌, ◌≢◌, ℕ, ◌+◌, ◌≤◌, Bool, true, false, List, [], ◌∷◌, ◌++◌, length, reverse, take, refl, sym, ◌∙◌, ap, subst, arith, length-append}
 use Rattle.std.proofs.lemmas.List.{take-append-le, take_all, reverse-append}
-use Rattle.disk_core.specs.Disk.{Torn, Same, Passes}
-use Rattle.disk_core.specs.Past.{Leaves, file_after, IsLeft, IsLeftAt}
+use Rattle.disk_core.specs.Disk.{Torn, Same, Passes, Syncs, Never}
+use Rattle.disk_core.specs.Past.{Leaves, file_after, IsLeft, IsLeftAt, EndsInSync, IsSyncedAt}
 use Rattle.disk_core.specs.PastLaws.{reads}
 use Rattle.disk_core.specs.declared.record.DiskCall.{DiskCall}
 use Rattle.disk_core.specs.declared.record.DiskCall.TheVariants.{Length, ReadAt, WriteAt, Sync}
@@ -69,3 +69,31 @@ pub passes_torn_in : (start : List ℕ) (calls later : List Noted) (done : Bool)
 passes_torn_in start calls later done place piece is =
     subst (λ (l : List Noted). Passes (length calls) (length l) (IsLeftAt start calls) (IsLeftAt start l) (Torn place (length piece))) (sym is)
     (passes_by start calls (record { call = WriteAt; done = done; place = place; bytes = piece }) (Torn place (length piece)) (λ image left. left))
+
+-- one call more: a sync that was done is one at the record's new end, and nothing else changes
+pub syncs_in : (calls later : List Noted) (noted : Noted) → later ≡ calls ++ noted ∷ [] → Syncs (length calls) (IsSyncedAt calls) (IsSyncedAt later) (λ moment. (EndsInSync (noted ∷ [])) × (moment ≡ length later))
+syncs_in calls later noted is =
+    let long : length later ≡ length calls + 1 = ap length is ∙ length-append calls (noted ∷ []) in
+    let stays : (moment : ℕ) → moment ≤ length calls → take moment later ≡ take moment calls = λ moment le. ap (take moment) is ∙ take-append-le moment calls (noted ∷ []) le in
+    let last : reverse (take (length later) later) ≡ noted ∷ reverse calls = ap reverse (take_all (length later) later (omega arith) ∙ is) ∙ reverse-append calls (noted ∷ []) in
+    record {
+      same = λ moment le. (
+        (λ synced. (omega (arith, long, le), subst (λ (l : List Noted). EndsInSync (reverse l)) (sym (stays moment le)) synced.1)),
+        (λ synced. (le, subst (λ (l : List Noted). EndsInSync (reverse l)) (stays moment le) synced.1)),
+      );
+      since = λ moment after. (
+        (λ synced.
+            let here : moment ≡ length later = omega (arith, long, synced.0) in
+            (subst EndsInSync last (subst (λ (m : ℕ). EndsInSync (reverse (take m later))) here synced.1), here)),
+        (λ ends. (omega (arith, ends.1), subst (λ (m : ℕ). EndsInSync (reverse (take m later))) (sym ends.1) (subst EndsInSync (sym last) ends.0))),
+      );
+    }
+
+-- no sync
+pub syncs_none_in : (calls later : List Noted) (noted : Noted) → later ≡ calls ++ noted ∷ [] → (EndsInSync (noted ∷ []) → ⊥) → Syncs (length calls) (IsSyncedAt calls) (IsSyncedAt later) Never
+syncs_none_in calls later noted is none =
+    let all = syncs_in calls later noted is in
+    record {
+      same = all.same;
+      since = λ moment after. ((λ synced. none ((all.since moment after).0 synced).0), (λ never. absurd never));
+    }

@@ -1,17 +1,17 @@
 -- Images under a write that a stop cuts short.
-use Rattle.std.proofs.Common.{◌≡◌, ℕ, ◌+◌, ◌-◌, ◌≤◌, ◌<◌, max, List, [], ◌∷◌, ◌++◌, length, get_or, take, drop, reverse, Bool, true, false, refl, sym, ◌∙◌, ap, subst, arith, Some, Result, Ok, Err, OnOk, IfOk}
+use Rattle.std.proofs.Common.{◌≡◌, ℕ, ◌+◌, ◌-◌, ◌≤◌, ◌<◌, List, [], ◌∷◌, ◌++◌, length, get_or, take, drop, reverse, Bool, true, false, sym, ◌∙◌, ap, subst, arith, Some, Result, Ok, Err, OnOk, IfOk}
 use Rattle.std.specs.Prelude.{slice_get}
 use Rattle.std.specs.List.{All, Contains}
 use Rattle.std.proofs.lemmas.List.{drop-drop, take_more, reverse-append}
-use Rattle.std.proofs.lemmas.List.Elements.{All-append, All-cons, All-nil, Contains-get_or}
+use Rattle.std.proofs.lemmas.List.Elements.{All-append, All-cons, All-nil, Contains-get_or, Contains-append_right}
 use Rattle.std.proofs.lemmas.Option.{get_or_from_slice_get}
 use Rattle.disk_core.specs.Disk.{written, Torn}
-use Rattle.disk_core.specs.Past.{Leaves, file_after, IsLeft}
+use Rattle.disk_core.specs.Past.{Leaves, file_after, IsLeft, IsLeftAt}
 use Rattle.disk_core.specs.Torn.{IsTornOf, IsLeftBy}
 use Rattle.disk_core.specs.declared.record.DiskCall.{DiskCall}
 use Rattle.disk_core.specs.declared.record.DiskCall.TheVariants.{Length, ReadAt, WriteAt, Sync}
 use Rattle.disk_core.specs.declared.record.Noted.{Noted}
-use Rattle.disk_core.specs.PastLaws.{torn_written}
+use Rattle.disk_core.specs.PastLaws.{torn_written, reads}
 
 -- torn in a shorter range, torn in the range
 torn_wider : (place less n : ℕ) (old new : List ℕ) → less ≤ n → Torn place less old new → Torn place n old new
@@ -81,3 +81,15 @@ left_by_write call done place piece part file before images is same all k d with
 pub on_each : {T E : Type 0} (P Q : T → Type 0) (r : Result T E) → ((x : T) → P x → Q x) → IfOk r P → IfOk r Q
 on_each P Q (Ok x) f h = f x h
 on_each P Q (Err e) f h = h
+
+-- the file itself, behind images that all are left
+pub with_file : (start : List ℕ) (calls : List Noted) (n : ℕ) (images later : List (List ℕ)) (file last : List ℕ) → n ≡ length calls → file ≡ file_after start (reverse (take n calls)) → All (IsLeft start (reverse (take n calls))) images
+    → last ≡ file → later ≡ images ++ last ∷ [] → All (IsLeftAt start calls (length calls)) later
+with_file start calls n images later file last end is all same more =
+    let P : List ℕ → Type 0 = IsLeft start (reverse (take n calls)) in
+    subst (λ (m : ℕ). All (IsLeft start (reverse (take m calls))) later) end
+    (joins P images (last ∷ []) later more all (one P last (subst P (sym (same ∙ is)) (reads start (reverse (take n calls))))))
+
+pub has_last : (images later : List (List ℕ)) (file last : List ℕ) → file ≡ last → later ≡ images ++ last ∷ [] → Contains later file
+has_last images later file last same more =
+    subst (λ (l : List (List ℕ)). Contains l file) (sym more) (Contains-append_right images (last ∷ []) file (0, omega arith, sym same))

@@ -24,6 +24,16 @@ pub record Passes (before now : ℕ) (past left : ℕ → List ℕ → Type 0) (
   pub same : (moment : ℕ) (image : List ℕ) → moment ≤ before → past moment image ↔ left moment image
   pub inside : (moment : ℕ) (image : List ℕ) → before < moment → moment ≤ now → left moment image → (old : List ℕ) × past before old × Makes old image
 
+-- In a call that takes the clock from `before` on: which syncs had succeeded before it is the same after it, and since
+-- then a sync succeeded at the moments of `Ends` alone.
+pub record Syncs (before : ℕ) (past now Ends : ℕ → Type 0) : Type 0 where
+  pub same : (moment : ℕ) → moment ≤ before → past moment ↔ now moment
+  pub since : (moment : ℕ) → before < moment → now moment ↔ Ends moment
+
+-- no sync succeeded
+abbrev pub Never : ℕ → Type 0
+Never moment = ⊥
+
 -- each image is what a read gives
 abbrev pub IsSettled : Option (List ℕ) → (List ℕ → Type 0) → Type 0
 IsSettled content images = ForSome content (λ file. (image : List ℕ) → images image → image ≡ file)

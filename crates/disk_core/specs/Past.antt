@@ -1,5 +1,5 @@
 -- The file and its images, from a record of calls.
-use Rattle.std.specs.Prelude.{◌≡◌, ℕ, Bool, true, false, List, [], ◌∷◌, length, reverse, take}
+use Rattle.std.specs.Prelude.{◌≡◌, ℕ, ◌≤◌, Bool, true, false, List, [], ◌∷◌, length, reverse, take, count_by}
 use Rattle.disk_core.specs.Disk.{written, Torn}
 use Rattle.disk_core.specs.declared.record.DiskCall.{DiskCall}
 use Rattle.disk_core.specs.declared.record.DiskCall.TheVariants.{Length, ReadAt, WriteAt, Sync}
@@ -35,3 +35,24 @@ IsLeft start (noted ∷ earlier) image =
 -- a stop after the first calls of a record, the oldest of which comes first, may leave this image
 abbrev pub IsLeftAt : List ℕ → List Noted → ℕ → List ℕ → Type 0
 IsLeftAt start calls moment image = IsLeft start (reverse (take moment calls)) image
+
+-- the newest of these calls, of which it comes first, is a sync that was done
+abbrev pub EndsInSync : List Noted → Type 0
+EndsInSync [] = ⊥
+EndsInSync (noted ∷ earlier) = (noted.call ≡ Sync) × (noted.done ≡ true)
+
+-- the call at this moment of a record is a sync that was done
+abbrev pub IsSyncedAt : List Noted → ℕ → Type 0
+IsSyncedAt calls moment = (moment ≤ length calls) × EndsInSync (reverse (take moment calls))
+
+-- whether two calls are of one kind
+abbrev pub is_kind : DiskCall → DiskCall → Bool
+is_kind Length Length = true
+is_kind ReadAt ReadAt = true
+is_kind WriteAt WriteAt = true
+is_kind Sync Sync = true
+is_kind _ _ = false
+
+-- how many calls of this kind a record has
+abbrev pub count_of : DiskCall → List Noted → ℕ
+count_of call calls = count_by (λ noted. is_kind noted.call call) calls

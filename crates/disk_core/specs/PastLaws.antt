@@ -1,5 +1,5 @@
 -- The file as it reads is one of the images.
-use Rattle.std.specs.Prelude.{◌≡◌, ℕ, ◌+◌, ◌-◌, ◌≤◌, min, max, Bool, true, false, List, [], ◌∷◌, ◌++◌, length, reverse, take, drop, replicate, refl, if◌then◌else◌, ◌==◌, Option, Some, None}
+use Rattle.std.specs.Prelude.{◌≡◌, ℕ, ◌+◌, ◌-◌, min, Bool, true, false, List, [], ◌∷◌, ◌++◌, length, reverse, take, drop, replicate, refl, if◌then◌else◌, ◌==◌, Some, None}
 use Rattle.std.proofs.Common.{sym, ◌∙◌, ap, subst, arith, append_assoc, length-append, length-take, length-drop}
 use Rattle.std.proofs.lemmas.Bool.Decides.{nat_tests}
 use Rattle.std.proofs.lemmas.List.{length-replicate, take_min, take_at, drop_at, take_all}
@@ -64,9 +64,14 @@ reads_at_end start calls file is =
     subst (λ (l : List Noted). IsLeft start (reverse l) file) (sym (take_all (length calls) calls (omega arith)))
     (subst (IsLeft start (reverse calls)) (sym is) (reads start (reverse calls)))
 
--- of a disk in memory: what it tells is the file after its record, and so one of the images at its end
+-- of a disk in memory: what it tells is the file after its record
+pub memory_tells : (starved : ℕ) (start : List ℕ) (calls : List Noted) (file told : List ℕ) → (starved ≡ 0 → file ≡ file_after start (reverse calls))
+    → (if starved == 0 then Some file else None) ≡ Some told → told ≡ file_after start (reverse calls)
+memory_tells starved start calls file told is tells =
+    let both = told_by (starved == 0) file told tells in
+    sym both.1 ∙ is (zero_if starved both.0)
+
+-- and so one of the images at its end
 pub memory_reads : (starved : ℕ) (start : List ℕ) (calls : List Noted) (file told : List ℕ) → (starved ≡ 0 → file ≡ file_after start (reverse calls))
     → (if starved == 0 then Some file else None) ≡ Some told → IsLeftAt start calls (length calls) told
-memory_reads starved start calls file told is tells =
-    let both = told_by (starved == 0) file told tells in
-    subst (IsLeftAt start calls (length calls)) both.1 (reads_at_end start calls file (is (zero_if starved both.0)))
+memory_reads starved start calls file told is tells = reads_at_end start calls told (memory_tells starved start calls file told is tells)

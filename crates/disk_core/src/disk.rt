@@ -1,7 +1,7 @@
 //! A disk: one file, by what a read of it gives and by what a stop may leave of it.
-ghost use Rattle.std.specs.Prelude.{◌≡◌, ◌+◌, ◌^◌, ◌<◌, ◌≤◌, ℕ, List, Option, Some, length, take, drop, IfOk, OnOk};
+ghost use Rattle.std.specs.Prelude.{◌≡◌, ◌+◌, ◌^◌, ◌<◌, ◌≤◌, ℕ, List, Option, Some, length, take, drop, IfOk, OnOk, IsOk};
 ghost use Rattle.std.specs.Option.{ForSome, option_map, IsSome};
-ghost use Rattle.disk_core.specs.Disk.{written, Torn, Same, Passes, IsSettled, HasCause};
+ghost use Rattle.disk_core.specs.Disk.{written, Torn, Same, Passes, Syncs, Never, IsSettled, HasCause};
 
 /// A device call didn't do its work. The disk has counted it.
 #[derive(Clone, Copy, Debug, PartialEq, Eq)]
@@ -22,6 +22,9 @@ pub trait Disk {
     /// The images that a stop at a moment up to now might have left. Those of this moment are what a stop may leave now.
     ghost left_at: { Self → ℕ → List ℕ → Type 0 };
 
+    /// A sync that succeeded ended at this moment.
+    ghost synced: { Self → ℕ → Type 0 };
+
     /// How often a call has failed.
     ghost faults: { Self → ℕ };
 
@@ -32,6 +35,7 @@ pub trait Disk {
         ensures told { ForSome (content self.new) (λ file. content self.old ≡ Some file) }
         ensures clock { moment self.old ≤ moment self.new }
         ensures stop { ForSome (content self.new) (λ _. Passes (moment self.old) (moment self.new) (left_at self.old) (left_at self.new) Same) }
+        ensures syncs { ForSome (content self.new) (λ _. Syncs (moment self.old) (synced self.old) (synced self.new) Never) }
         ensures cause { HasCause (faults self.old) (faults self.new) result };
 
     /// Fills a front of `into` with the bytes from `place` on, and answers how many. It is 0 only for an empty
@@ -45,6 +49,7 @@ pub trait Disk {
         ensures told { ForSome (content self.new) (λ file. content self.old ≡ Some file) }
         ensures clock { moment self.old ≤ moment self.new }
         ensures stop { ForSome (content self.new) (λ _. Passes (moment self.old) (moment self.new) (left_at self.old) (left_at self.new) Same) }
+        ensures syncs { ForSome (content self.new) (λ _. Syncs (moment self.old) (synced self.old) (synced self.new) Never) }
         ensures cause { HasCause (faults self.old) (faults self.new) result };
 
     /// Writes the whole piece at `place`. Bytes between the old end and `place` read as zero. After `Failed` the file
@@ -55,6 +60,7 @@ pub trait Disk {
         ensures told { ForSome (content self.new) (λ _. IsSome (content self.old)) }
         ensures clock { moment self.old ≤ moment self.new }
         ensures stop { ForSome (content self.new) (λ _. Passes (moment self.old) (moment self.new) (left_at self.old) (left_at self.new) (Torn place (length piece.now))) }
+        ensures syncs { ForSome (content self.new) (λ _. Syncs (moment self.old) (synced self.old) (synced self.new) Never) }
         ensures cause { HasCause (faults self.old) (faults self.new) result };
 
     /// Makes what was written lasting. After `Failed` the file reads as one of the images.
@@ -64,6 +70,7 @@ pub trait Disk {
         ensures told { ForSome (content self.new) (λ _. IsSome (content self.old)) }
         ensures clock { moment self.old ≤ moment self.new }
         ensures stop { ForSome (content self.new) (λ _. Passes (moment self.old) (moment self.new) (left_at self.old) (left_at self.new) Same) }
+        ensures syncs { ForSome (content self.new) (λ _. Syncs (moment self.old) (synced self.old) (synced self.new) (λ time. IsOk result × (time ≡ moment self.new))) }
         ensures cause { HasCause (faults self.old) (faults self.new) result };
 
     /// The file as it reads is one of the images.

@@ -13,6 +13,8 @@ mod disk;
 mod fused;
 mod memory;
 mod record;
+#[cfg(test)]
+mod tests;
 mod torn;
 
 pub use bytes::{Bytes, Images};

@@ -1,5 +1,5 @@
 //! A disk in memory. It keeps a record of its calls, so a stop may leave all that the disk model allows.
-ghost use Rattle.std.specs.Prelude.{◌≡◌, ◌≢◌, ◌==◌, ◌+◌, ◌<◌, ◌≤◌, ◌^◌, ◌∷◌, ◌++◌, [], true, if◌then◌else◌, Some, None, length, reverse, take, drop, IfOk, OnOk, OnErr};
+ghost use Rattle.std.specs.Prelude.{◌≡◌, ◌≢◌, ◌==◌, ◌+◌, ◌<◌, ◌≤◌, ◌^◌, ◌∷◌, ◌++◌, [], if◌then◌else◌, Some, None, length, reverse, take, drop, IfOk, OnOk, OnErr};
 ghost use Rattle.disk_core.specs.Disk.{written, Same, Passes, IsSettled, HasCause};
 ghost use Rattle.disk_core.specs.Past.{file_after};
 
@@ -24,8 +24,8 @@ pub struct MemoryDisk {
 
 impl MemoryDisk {
     ghost use Rattle.std.specs.Option.{ForSome};
-    ghost use Rattle.disk_core.specs.Memory.{content_of, clock_of, left_by, faults_of, calls_of};
-    ghost use Rattle.std.specs.List.{All};
+    ghost use Rattle.disk_core.specs.Memory.{content_of, clock_of, left_by, faults_of, calls_of, failing_of, FollowsList};
+    ghost use Rattle.std.specs.List.{All, Contains};
 
     /// A disk with this file, all of it lasting, that fails the listed calls.
     pub fn new(
@@ -35,6 +35,8 @@ impl MemoryDisk {
     ) -> Result<MemoryDisk, AllocError>
         ensures told { IfOk result (λ disk. content_of disk ≡ Some contents.now) }
         ensures settled { IfOk result (λ disk. IsSettled (content_of disk) (left_by disk (clock_of disk))) }
+        ensures failing { IfOk result (λ disk. failing_of disk ≡ failing.now) }
+        ensures calls { IfOk result (λ disk. calls_of disk ≡ []) }
         ensures faults { IfOk result (λ disk. faults_of disk ≡ 0) }
     {
         let start = contents.to_vec(alloc)?;
@@ -67,11 +69,12 @@ impl MemoryDisk {
         &self.log.calls
     }
 
-    /// Some of the images that a stop may leave now, among them the file as it reads. A byte that was written since the
-    /// last sync is 0, 1, 2, 255 or what was written; a longer piece is missing, half written, whole, or all 255. So each
-    /// write since then multiplies them by four or five.
+    /// Some of the images that a stop may leave now. A byte that was written since the last sync is what was written, 0,
+    /// 1, 2 or 255; a longer piece is whole, missing, half written, or all 255. So each write since then multiplies them
+    /// by four or five. The last one is the file as it reads.
     pub fn images(&self) -> Result<Images, AllocError>
-        ensures { IfOk result (λ images. All (left_by self.now (clock_of self.now)) images) }
+        ensures left { IfOk result (λ images. All (left_by self.now (clock_of self.now)) images) }
+        ensures file { IfOk result (λ images. ForSome (content_of self.now) (λ file. Contains images file)) }
     {
         let alloc = self.log.alloc;
         let mut file = self.start.to_vec(alloc)?;
@@ -80,13 +83,15 @@ impl MemoryDisk {
         'calls: for noted in &self.log.calls {
             images = images_after(alloc, &images, &mut file, noted)?;
         }
+        images.push(Bytes::of(alloc, &file)?)?;
         Ok(images)
     }
 
     // A call that doesn't change the file.
     fn pass(&mut self, call: DiskCall, place: u64) -> Result<(), Failed>
         requires { call ≢ DiskCall.WriteAt }
-        ensures ok { OnOk result ((self.new.starved ≡ self.old.starved) × (self.new.log.calls.items ≡ self.old.log.calls.items ++ (record { call = call; done = true; place = place; bytes = [] }) ∷ [])) }
+        ensures ok { OnOk result (self.new.starved ≡ self.old.starved) }
+        ensures listed { FollowsList self.old self.new call place [] result }
         ensures file { self.new.file ≡ self.old.file }
         ensures start { self.new.start ≡ self.old.start }
         ensures told { ForSome (content_of self.new) (λ file. content_of self.old ≡ Some file) }
@@ -131,7 +136,10 @@ fn put(file: &mut [u8], place: usize, piece: &[u8])
 impl Disk for MemoryDisk {
     ghost use Rattle.std.specs.Prelude.{ℕ, List};
     ghost use Rattle.std.proofs.Common.{subst};
-    ghost use Rattle.disk_core.specs.Memory.{content_of, clock_of, left_by, faults_of};
+    ghost use Rattle.std.specs.Option.{ForSome, option_map, IsSome};
+    ghost use Rattle.std.specs.Prelude.{IsOk};
+    ghost use Rattle.disk_core.specs.Disk.{Torn, Syncs, Never};
+    ghost use Rattle.disk_core.specs.Memory.{content_of, clock_of, left_by, synced_by, faults_of, FollowsList};
     ghost use Rattle.disk_core.specs.Past.{IsLeftAt};
     ghost use Rattle.disk_core.specs.PastLaws.{memory_reads};
 
@@ -141,16 +149,39 @@ impl Disk for MemoryDisk {
 
     ghost left_at = { left_by };
 
+    ghost synced = { synced_by };
+
     ghost faults = { faults_of };
 
     ghost reads_as_image = { λ disk file is. memory_reads disk.starved disk.start.items disk.log.calls.items disk.file.items file disk.reads is };
 
-    fn length(&mut self) -> Result<u64, Failed> {
+    fn length(&mut self) -> Result<u64, Failed>
+        ensures value { IfOk result (λ n. ForSome (content_of self.old) (λ file. n ≡ length file)) }
+        ensures same { OnOk result (content_of self.new ≡ content_of self.old) }
+        ensures told { ForSome (content_of self.new) (λ file. content_of self.old ≡ Some file) }
+        ensures clock { clock_of self.old ≤ clock_of self.new }
+        ensures stop { ForSome (content_of self.new) (λ _. Passes (clock_of self.old) (clock_of self.new) (left_by self.old) (left_by self.new) Same) }
+        ensures syncs { ForSome (content_of self.new) (λ _. Syncs (clock_of self.old) (synced_by self.old) (synced_by self.new) Never) }
+        ensures cause { HasCause (faults_of self.old) (faults_of self.new) result }
+        ensures listed { FollowsList self.old self.new DiskCall.Length 0 [] result }
+    {
         self.pass(DiskCall::Length, 0)?;
         Ok(self.file.len() as u64)
     }
 
-    fn read_at(&mut self, place: u64, into: &mut [u8]) -> Result<usize, Failed> {
+    fn read_at(&mut self, place: u64, into: &mut [u8]) -> Result<usize, Failed>
+        ensures bound { IfOk result (λ n. n ≤ length into.new) }
+        ensures bytes { IfOk result (λ n. ForSome (content_of self.old) (λ file. take n into.new ≡ take n (drop place file))) }
+        ensures within { IfOk result (λ n. ForSome (content_of self.old) (λ file. n ≤ length (drop place file))) }
+        ensures ended { IfOk result (λ n. ForSome (content_of self.old) (λ file. n ≡ 0 → 0 < length into.new → length file ≤ place)) }
+        ensures same { OnOk result (content_of self.new ≡ content_of self.old) }
+        ensures told { ForSome (content_of self.new) (λ file. content_of self.old ≡ Some file) }
+        ensures clock { clock_of self.old ≤ clock_of self.new }
+        ensures stop { ForSome (content_of self.new) (λ _. Passes (clock_of self.old) (clock_of self.new) (left_by self.old) (left_by self.new) Same) }
+        ensures syncs { ForSome (content_of self.new) (λ _. Syncs (clock_of self.old) (synced_by self.old) (synced_by self.new) Never) }
+        ensures cause { HasCause (faults_of self.old) (faults_of self.new) result }
+        ensures listed { FollowsList self.old self.new DiskCall.ReadAt place [] result }
+    {
         self.pass(DiskCall::ReadAt, place)?;
         let size = self.file.len();
         if place >= size as u64 {
@@ -162,7 +193,16 @@ impl Disk for MemoryDisk {
         Ok(count)
     }
 
-    fn write_at(&mut self, place: u64, piece: &[u8]) -> Result<(), Failed> {
+    fn write_at(&mut self, place: u64, piece: &[u8]) -> Result<(), Failed>
+        ensures written { OnOk result (content_of self.new ≡ option_map (written place piece.now) (content_of self.old)) }
+        ensures refused { OnErr result (ForSome (content_of self.new) (λ file. content_of self.old ≡ Some file)) }
+        ensures told { ForSome (content_of self.new) (λ _. IsSome (content_of self.old)) }
+        ensures clock { clock_of self.old ≤ clock_of self.new }
+        ensures stop { ForSome (content_of self.new) (λ _. Passes (clock_of self.old) (clock_of self.new) (left_by self.old) (left_by self.new) (Torn place (length piece.now))) }
+        ensures syncs { ForSome (content_of self.new) (λ _. Syncs (clock_of self.old) (synced_by self.old) (synced_by self.new) Never) }
+        ensures cause { HasCause (faults_of self.old) (faults_of self.new) result }
+        ensures listed { FollowsList self.old self.new DiskCall.WriteAt place piece.now result }
+    {
         match self.log.enter(DiskCall::WriteAt, place, piece) {
             Ok(true) => {}
             Ok(false) => return Err(Failed),
@@ -178,7 +218,17 @@ impl Disk for MemoryDisk {
         Ok(())
     }
 
-    fn sync(&mut self) -> Result<(), Failed> {
+    fn sync(&mut self) -> Result<(), Failed>
+        ensures settled { OnOk result (IsSettled (content_of self.new) (left_by self.new (clock_of self.new))) }
+        ensures same { OnOk result (content_of self.new ≡ content_of self.old) }
+        ensures refused { OnErr result (ForSome (content_of self.new) (λ file. content_of self.old ≡ Some file)) }
+        ensures told { ForSome (content_of self.new) (λ _. IsSome (content_of self.old)) }
+        ensures clock { clock_of self.old ≤ clock_of self.new }
+        ensures stop { ForSome (content_of self.new) (λ _. Passes (clock_of self.old) (clock_of self.new) (left_by self.old) (left_by self.new) Same) }
+        ensures syncs { ForSome (content_of self.new) (λ _. Syncs (clock_of self.old) (synced_by self.old) (synced_by self.new) (λ time. IsOk result × (time ≡ clock_of self.new))) }
+        ensures cause { HasCause (faults_of self.old) (faults_of self.new) result }
+        ensures listed { FollowsList self.old self.new DiskCall.Sync 0 [] result }
+    {
         self.pass(DiskCall::Sync, 0)
     }
 }

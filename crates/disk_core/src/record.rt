@@ -1,6 +1,7 @@
 //! What a disk in memory writes down: each call, and whether it was done.
-ghost use Rattle.std.specs.Prelude.{◌≡◌, ◌^◌, ◌+◌, ◌-◌, ◌≤◌, min, true, false, IsTrue, IfOk, OnErr, ◌∷◌, ◌++◌, []};
+ghost use Rattle.std.specs.Prelude.{◌≡◌, ◌↔◌, ◌^◌, ◌+◌, ◌≤◌, true, false, IsTrue, IfOk, OnErr, ◌∷◌, ◌++◌, [], Contains};
 ghost use Rattle.disk_core.specs.Disk.{Rose};
+ghost use Rattle.disk_core.specs.Past.{count_of};
 
 use crate::Bytes;
 use std::alloc::{AllocError, Global};
@@ -48,8 +49,10 @@ impl Log {
         bytes: &[u8],
     ) -> Result<bool, AllocError>
         ensures noted { IfOk result (λ done. self.new.calls.items ≡ self.old.calls.items ++ (record { call = call; done = done; place = place; bytes = bytes.now }) ∷ []) }
+        ensures listed { IfOk result (λ done. (done ≡ false) ↔ Contains self.old.failing.items (record { call = call; nth = count_of call self.old.calls.items + 1 })) }
+        ensures failing { self.new.failing ≡ self.old.failing }
         ensures done { IfOk result (λ done. done ≡ true → self.new.failed ≡ self.old.failed) }
-        ensures listed { IfOk result (λ done. done ≡ false → Rose self.old.failed self.new.failed) }
+        ensures failed { IfOk result (λ done. done ≡ false → Rose self.old.failed self.new.failed) }
         ensures count { self.old.failed ≤ self.new.failed }
         ensures err { OnErr result ((self.new.failed ≡ self.old.failed) × (self.new.calls.items ≡ self.old.calls.items)) }
     {
@@ -69,9 +72,16 @@ impl Log {
 }
 
 // Whether the next call of this kind is on the list.
-fn is_listed(failing: &[Failing], calls: &[Noted], call: DiskCall) -> bool {
-    let before = calls.iter().filter(|noted| noted.call == call).count() as u64;
-    failing.iter().any(|listed| listed.call == call
-        && listed.nth > before
-        && listed.nth - before == 1)
+fn is_listed(failing: &[Failing], calls: &[Noted], call: DiskCall) -> bool
+    ensures { IsTrue result ↔ Contains failing.now (record { call = call; nth = count_of call calls.now + 1 }) }
+{
+    let nth = count(calls, call) + 1;
+    failing.contains(&Failing { call, nth })
+}
+
+// How many calls of this kind there are.
+fn count(calls: &[Noted], call: DiskCall) -> u64
+    ensures { result ≡ count_of call calls.now }
+{
+    calls.iter().filter(|noted| noted.call == call).count() as u64
 }

@@ -1,12 +1,11 @@
 -- What a commit leaves, from what its two parts leave.
-use Rattle.std.proofs.Common.{◌≡◌, ◌⊎◌, inl, inr, ℕ, ◌+◌, ◌*◌, ◌≤◌, List, [], ◌∷◌, ◌++◌, length, drop, Option, Some, refl, sym, ◌∙◌, ap, subst, arith}
-use Rattle.std.specs.Option.{ForSome}
+use Rattle.std.proofs.Common.{◌≡◌, inl, ℕ, ◌+◌, ◌*◌, ◌≤◌, List, [], ◌∷◌, ◌++◌, length, drop, Option, Some, sym, ◌∙◌, ap, subst, arith}
 use Rattle.disk_core.specs.Disk.{written, Torn, IsSettled}
-use Rattle.journal_core.specs.File.{base_of, staged_record, listed, HoldsAt}
-use Rattle.journal_core.specs.Stops.{Spans, LeavesOnly, Run}
+use Rattle.journal_core.specs.File.{staged_record, listed, HoldsAt}
+use Rattle.journal_core.specs.Stops.{Spans, LeavesOnly}
 use Rattle.journal_core.specs.Journal.{HoldsEither}
-use Rattle.journal_core.proofs.Parts.{Parts, parts_of, torn_behind, torn_gate, staged, staged_is, gated, gated_open, written_gate, length-staged_record, length-listed-push, gate_at}
-use Rattle.journal_core.proofs.Runs.{told, tells, leaves, leaves_on}
+use Rattle.journal_core.proofs.Parts.{Parts, parts_of, torn_behind, torn_gate, staged, staged_is, gated, gated_open, written_gate, gate_at}
+use Rattle.journal_core.proofs.Runs.{leaves}
 
 module _ {D : Type 0} (content : D → Option (List ℕ)) (moment : D → ℕ) (left_at : D → ℕ → List ℕ → Type 0) (file : List ℕ) (area side used : ℕ) (bodies : List (List ℕ)) (body : List ℕ) (holds : HoldsAt file area side bodies) (is_used : used ≡ length (listed bodies)) where
   abbrev parts : Parts file area side bodies

@@ -1,5 +1,5 @@
 -- A header and its parts.
-use Rattle.std.proofs.Common.{Fits, w8, suc, ◌≡◌, ℕ, ◌+◌, ◌%◌, ◌^◌, ◌≤◌, ◌<◌, List, [], ◌∷◌, ◌++◌, length, get_or, take, drop, replicate, refl, sym, ◌∙◌, ap, subst, arith, append_assoc, length-append, length-take, length-drop, take-append-drop}
+use Rattle.std.proofs.Common.{◌≡◌, ℕ, ◌+◌, ◌%◌, ◌≤◌, ◌<◌, List, ◌∷◌, ◌++◌, length, get_or, take, drop, replicate, refl, sym, ◌∙◌, ap, subst, arith, length-append, length-take, length-drop, take-append-drop}
 use Rattle.std.proofs.lemmas.List.{take_at, drop_at, take_all, take-take, get_or-drop}
 use Rattle.std.specs.Int.{w64, from_be_bytes}
 use Rattle.journal_core.specs.File.{big_endian, magic, header, HasHeader}

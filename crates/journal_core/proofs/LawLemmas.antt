@@ -1,10 +1,10 @@
 -- Each file has one meaning.
-use Rattle.std.proofs.Common.{◌≡◌, ◌≢◌, ◌⊎◌, inl, inr, ⊎_elim, ℕ, zero, suc, ◌+◌, ◌*◌, ◌%◌, ◌^◌, ◌≤◌, ◌<◌, List, [], ◌∷◌, ◌++◌, length, get_or, take, drop, replicate, refl, sym, ◌∙◌, ap, subst, arith, append_assoc, length-append, length-take, length-drop, take-append-drop}
+use Rattle.std.proofs.Common.{◌≡◌, ◌≢◌, ◌⊎◌, inl, inr, ⊎_elim, ℕ, zero, suc, ◌+◌, ◌%◌, ◌^◌, ◌≤◌, ◌<◌, List, [], ◌∷◌, ◌++◌, length, get_or, take, drop, replicate, refl, sym, ◌∙◌, ap, subst, arith, append_assoc, length-take, length-drop}
 use Rattle.std.proofs.lemmas.Bool.{cases_eq, cases_lt}
-use Rattle.std.proofs.lemmas.List.{get_or-drop, drop_more, nil_from_length}
+use Rattle.std.proofs.lemmas.List.{get_or-drop, drop_more}
 use Rattle.std.specs.List.{flat_map}
 use Rattle.std.specs.Int.{w64, from_be_bytes}
-use Rattle.journal_core.specs.File.{big_endian, magic, header, HasHeader, base_of, inside_of, opened, listed, HoldsAt, Holds, IsNotAStore, HasVersion, LacksRecord, IsBroken, IsDamaged, Meaning, holds, not_a_store, other_version, damaged, Means}
+use Rattle.journal_core.specs.File.{big_endian, magic, HasHeader, base_of, inside_of, opened, listed, IsBroken, Meaning, holds, not_a_store, other_version, damaged, Means}
 use Rattle.journal_core.specs.OneMeaning.{EachFileHasOneMeaning}
 use Rattle.journal_core.proofs.Fields.{take_bytes, lacks_length, lacks_body, record_read}
 use Rattle.journal_core.proofs.Headers.{Cut, has_text, has_area, has_zeros, is_header, header_of_front, front_of_header, too_short}

@@ -1,6 +1,6 @@
 -- Lists of bytes: pieces written into them, and what a torn write leaves.
-use Rattle.std.proofs.Common.{◌≡◌, ◌≢◌, ℕ, zero, suc, ◌+◌, ◌-◌, ◌≤◌, ◌<◌, min, max, List, [], ◌∷◌, ◌++◌, length, get_or, take, drop, replicate, refl, sym, ◌∙◌, ap, subst, arith, append_assoc, length-append, length-take, length-drop, take-append-drop}
-use Rattle.std.proofs.lemmas.List.{length-replicate, append-nil, take_all, take_at, drop_at, take_min, take-take, take-append-le, drop-append-le, drop_all, drop-drop, drop_more}
+use Rattle.std.proofs.Common.{◌≡◌, ℕ, ◌+◌, ◌-◌, ◌≤◌, ◌<◌, min, List, [], ◌∷◌, ◌++◌, length, get_or, take, drop, replicate, refl, sym, ◌∙◌, ap, arith, append_assoc, length-append, length-take, take-append-drop}
+use Rattle.std.proofs.lemmas.List.{length-replicate, take_at, drop_at, take_min, take-take, take-append-le, drop-drop, drop_more}
 use Rattle.std.proofs.Math.Seq.{take-append-add}
 use Rattle.disk_core.specs.Disk.{written, Torn}
 

@@ -1,8 +1,8 @@
 -- A file has one meaning.
-use Rattle.std.proofs.Common.{◌≡◌, ◌≢◌, ◌⊎◌, inl, inr, ℕ, ◌+◌, ◌*◌, ◌%◌, ◌^◌, ◌≤◌, ◌<◌, min, List, [], ◌∷◌, ◌++◌, length, get_or, take, drop, replicate, refl, sym, ◌∙◌, ap, subst, arith, append_assoc, length-append, length-take}
+use Rattle.std.proofs.Common.{◌≡◌, ℕ, ◌%◌, ◌^◌, ◌≤◌, ◌<◌, List, ◌∷◌, ◌++◌, length, get_or, take, drop, replicate, refl, sym, ◌∙◌, ap, arith, length-take}
 use Rattle.std.proofs.lemmas.List.{take_at, drop_at}
 use Rattle.std.specs.List.{flat_map}
-use Rattle.journal_core.specs.File.{big_endian, magic, header, HasHeader, base_of, inside_of, opened, listed, HoldsAt}
+use Rattle.journal_core.specs.File.{big_endian, header, HasHeader, base_of, inside_of, opened, listed, HoldsAt}
 use Rattle.journal_core.proofs.Parts.{length-big_endian}
 use Rattle.journal_core.proofs.Unique.{big_endian_injective, records_same, Ends, Follows, follows_on, closed_ends}
 

@@ -1,12 +1,12 @@
 -- A file that holds bodies, in its parts, and what a stop makes of it while a body is added.
-use Rattle.std.proofs.Common.{◌≡◌, ◌≢◌, ◌⊎◌, inl, inr, ℕ, ◌+◌, ◌-◌, ◌*◌, ◌≤◌, min, List, [], ◌∷◌, ◌++◌, length, take, drop, replicate, refl, sym, ◌∙◌, ap, subst, arith, append_assoc, length-append, length-take, length-drop, take-append-drop}
+use Rattle.std.proofs.Common.{◌≡◌, ◌≢◌, ◌⊎◌, inl, inr, ℕ, ◌+◌, ◌-◌, ◌≤◌, min, List, [], ◌∷◌, ◌++◌, length, take, drop, refl, sym, ◌∙◌, ap, subst, arith, append_assoc, length-append, length-take, length-drop, take-append-drop}
 use Rattle.std.proofs.lemmas.Bool.{cases_eq}
-use Rattle.std.proofs.lemmas.List.{append-nil, take_at, drop_at, take-take, take-append-le}
+use Rattle.std.proofs.lemmas.List.{append-nil, drop_at, take-append-le}
 use Rattle.std.proofs.Math.Seq.{take-append-add}
 use Rattle.std.specs.List.{flat_map}
 use Rattle.std.specs.Int.{w64, to_be_bytes}
 use Rattle.disk_core.specs.Disk.{written, Torn}
-use Rattle.journal_core.specs.File.{big_endian, header, HasHeader, base_of, inside_of, opened, staged_record, listed, HoldsAt}
+use Rattle.journal_core.specs.File.{big_endian, HasHeader, base_of, inside_of, opened, staged_record, listed, HoldsAt}
 use Rattle.journal_core.proofs.Lists.{written_behind, written_more, torn_keeps_front, torn_byte}
 
 pub length-big_endian : (n : ℕ) → length (big_endian n) ≡ 8

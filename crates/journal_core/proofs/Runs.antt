@@ -1,5 +1,5 @@
 -- How a run of device calls goes on.
-use Rattle.std.proofs.Common.{Result, Ok, Err, OnOk, IfNone, IfSome, MatchOption, ◌≡◌, ◌⊎◌, inl, inr, ◌↔◌, ℕ, ◌+◌, ◌≤◌, ◌<◌, List, Option, Some, None, is_some, true, refl, sym, ◌∙◌, ap, subst, arith, IsSome}
+use Rattle.std.proofs.Common.{Result, Ok, Err, OnOk, IfNone, IfSome, MatchOption, ◌≡◌, inl, inr, ℕ, ◌≤◌, List, Option, Some, None, is_some, refl, sym, ap, subst, arith, IsSome}
 use Rattle.std.proofs.lemmas.Bool.{cases_lt}
 use Rattle.std.specs.Option.{ForSome}
 use Rattle.disk_core.specs.Disk.{Same, Passes}

@@ -1,6 +1,6 @@
 -- What the opening of a file answers.
 use Rattle.std.specs.Prelude.{◌≡◌, ℕ, ◌+◌, ◌^◌, ◌<◌, ◌≤◌, List, length, Result, Ok, Err}
-use Rattle.journal_core.specs.File.{base_of, listed, HoldsAt, IsNotAStore, HasVersion, IsDamaged}
+use Rattle.journal_core.specs.File.{listed, HoldsAt, IsNotAStore, HasVersion, IsDamaged}
 use Rattle.journal_core.specs.declared.area.AreaFault.{AreaFault}
 use Rattle.journal_core.specs.declared.area.AreaFault.TheVariants as area
 use Rattle.journal_core.specs.declared.open.OpenFault.{OpenFault}

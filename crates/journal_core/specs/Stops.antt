@@ -1,5 +1,5 @@
 -- What a stop at any moment of a run of device calls may leave.
-use Rattle.std.specs.Prelude.{◌≡◌, ◌↔◌, ℕ, ◌≤◌, List, Option, IsSome}
+use Rattle.std.specs.Prelude.{◌↔◌, ℕ, ◌≤◌, List, Option, IsSome}
 use Rattle.std.specs.Option.{ForSome}
 
 module _ {D : Type 0} (moment : D → ℕ) (left_at : D → ℕ → List ℕ → Type 0) where

@@ -1,20 +1,23 @@
 //! Making a journal in an empty file.
-ghost use Rattle.std.specs.Prelude.{◌≡◌, ◌≤◌, ◌<◌, ◌^◌, ◌+◌, ℕ, List, [], Some, IsSome, length, IfOk, IfErr, OnOk, OnErr, MatchResult};
+ghost use Rattle.std.specs.Prelude.{◌≡◌, ◌≢◌, ◌≤◌, ◌<◌, ◌^◌, ◌+◌, ℕ, List, [], Some, IsSome, length, IfOk, IfErr, OnOk, OnErr, IsOk, MatchResult};
 ghost use Rattle.std.specs.Option.{ForSome};
-ghost use Rattle.disk_core.specs.Disk.{written, Torn, Same, IsSettled, Rose, HasCause};
+ghost use Rattle.disk_core.specs.Disk.{written, Torn, Same, Syncs, IsSettled, Rose, HasCause};
 ghost use Rattle.journal_core.specs.File.{HoldsAt};
 ghost use Rattle.journal_core.specs.Stops.{Run};
-ghost use Rattle.journal_core.specs.Init.{new_file, IsInitCause, Founds};
+ghost use Rattle.journal_core.specs.Init.{new_file, IsInitCause, Founds, HasSynced};
 
 use crate::area::VERSION;
 use disk_core::{Disk, Failed};
+use thiserror::Error;
 
 /// Why no journal was made in a file.
-#[derive(Clone, Copy, Debug, PartialEq, Eq)]
+#[derive(Clone, Copy, Debug, PartialEq, Eq, Drop, Error)]
 pub enum InitFault {
     /// The file has so many bytes, and nothing was written.
+    #[error("not empty: {length} bytes")]
     NotEmpty { length: u64 },
     /// The disk failed.
+    #[error("disk fault")]
     DiskFault,
 }
 
@@ -42,6 +45,10 @@ pub fn init<D: Disk>(disk: D, area: u64) -> Result<D, (D, InitFault)>
     ensures unchanged { IfErr result (λ refusal. (length : ℕ) → refusal.1 ≡ InitFault.NotEmpty length → (0 < length)
         × ForSome (D.content refusal.0) (λ file. D.content disk ≡ Some file) × Run D.content D.moment D.left_at disk refusal.0 Same) }
 
+    // Whatever the refusal, a file with bytes stays as it was, and so do its images.
+    ensures spared { IfErr result (λ refusal. ForSome (D.content disk) (λ file. file ≢ []
+        → ForSome (D.content refusal.0) (λ later. D.content disk ≡ Some later) × Run D.content D.moment D.left_at disk refusal.0 Same)) }
+
     // The only other fault is the disk's, which has counted it.
     ensures disk_fault { IfErr result (λ refusal. refusal.1 ≡ InitFault.DiskFault → Rose (D.faults disk) (D.faults refusal.0)) }
     ensures count { MatchResult result (λ made. D.faults disk ≤ D.faults made) (λ refusal. D.faults disk ≤ D.faults refusal.0) }
@@ -51,8 +58,8 @@ pub fn init<D: Disk>(disk: D, area: u64) -> Result<D, (D, InitFault)>
     ensures settled { IfOk result (λ made. IsSettled (D.content made) (D.left_at made (D.moment made))) }
 
     // From its first sync that succeeded on, each image is no store or holds the empty list.
-    ensures any_moment { IfOk result (λ made. ForSome (D.content made) (λ _. (founds : Founds D.moment D.left_at disk made) × (founds.since ≤ D.moment made))) }
-    ensures any_moment_err { IfErr result (λ refusal. refusal.1 ≡ InitFault.DiskFault → ForSome (D.content refusal.0) (λ _. ForSome (D.content disk) (λ file. file ≡ [] → Founds D.moment D.left_at disk refusal.0))) }
+    ensures any_moment { IfOk result (λ made. ForSome (D.content made) (λ _. Founds D.moment D.left_at D.synced disk made × HasSynced D.moment D.synced disk made)) }
+    ensures any_moment_err { IfErr result (λ refusal. refusal.1 ≡ InitFault.DiskFault → ForSome (D.content refusal.0) (λ _. ForSome (D.content disk) (λ file. file ≡ [] → Founds D.moment D.left_at D.synced disk refusal.0))) }
 {
     let mut disk = disk;
     match disk.length() {
@@ -74,7 +81,7 @@ fn write_new<D: Disk>(disk: &mut D, area: u64) -> Result<(), Failed>
     ensures settled { OnOk result (IsSettled (D.content disk.new) (D.left_at disk.new (D.moment disk.new))) }
     ensures told { ForSome (D.content disk.new) (λ _. IsSome (D.content disk.old)) }
     ensures any_moment { ForSome (D.content disk.new) (λ _. ForSome (D.content disk.old) (λ file. file ≡ []
-        → (founds : Founds D.moment D.left_at disk.old disk.new) × OnOk result (founds.since ≤ D.moment disk.new))) }
+        → Founds D.moment D.left_at D.synced disk.old disk.new × OnOk result (HasSynced D.moment D.synced disk.old disk.new))) }
     ensures cause { HasCause (D.faults disk.old) (D.faults disk.new) result }
 {
     let bytes = first_bytes(area);
@@ -89,6 +96,8 @@ pub(crate) fn put<D: Disk>(disk: &mut D, place: u64, piece: &[u8]) -> Result<(),
     ensures written { OnOk result (ForSome (D.content disk.old) (λ file. D.content disk.new ≡ Some (written place piece.now file))) }
     ensures settled { OnOk result (IsSettled (D.content disk.new) (D.left_at disk.new (D.moment disk.new))) }
     ensures stop { Run D.content D.moment D.left_at disk.old disk.new (Torn place (length piece.now)) }
+    ensures clock { ForSome (D.content disk.new) (λ _. D.moment disk.old < D.moment disk.new) }
+    ensures syncs { ForSome (D.content disk.new) (λ _. Syncs (D.moment disk.old) (D.synced disk.old) (D.synced disk.new) (λ time. IsOk result × (time ≡ D.moment disk.new))) }
     ensures cause { HasCause (D.faults disk.old) (D.faults disk.new) result }
 {
     disk.write_at(place, piece)?;

@@ -12,13 +12,16 @@ use crate::open::{Found, read_file};
 use crate::{Moment, OpenFault, Records};
 use disk_core::{Disk, Failed};
 use std::alloc::Global;
+use thiserror::Error;
 
 /// Why a body was not added.
-#[derive(Clone, Copy, Debug, PartialEq, Eq)]
+#[derive(Clone, Copy, Debug, PartialEq, Eq, Drop, Error)]
 pub enum CommitFault {
     /// The record doesn't fit: so many bytes of the area are used, and so many were asked for.
+    #[error("limit: area, {used} used, {asked} asked")]
     Full { used: u64, asked: u64 },
     /// The disk failed. The body may be in the file or not, and the journal must be opened again.
+    #[error("disk fault")]
     DiskFault,
 }
 

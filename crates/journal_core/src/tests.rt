@@ -112,25 +112,31 @@ fn the_least_area_takes_53_bytes(rt: HostRuntime) -> Result<(), Fail> {
 }
 
 #[test]
-fn a_commit_is_three_writes_a_sync_a_write_and_a_sync(rt: HostRuntime) -> Result<(), Fail> {
+fn opening_is_two_reads_and_a_commit_four_writes_and_two_syncs(
+    rt: HostRuntime,
+) -> Result<(), Fail> {
     let alloc = rt.alloc();
     let mut journal = journal_on(alloc, MemoryDisk::new(alloc, &[], &[])?, 64)?;
     if journal.commit(b"abc").is_err() {
         return Err("not added".into());
     }
     let disk = journal.into_disk();
-    // Five calls made the file and three opened it.
+    // Five calls made the file. To open it its length was asked, and the header and the area were read whole.
     let mut calls = Vec::new(alloc);
-    for noted in disk.calls().iter().skip(8) {
+    for noted in disk.calls().iter().skip(5) {
         calls.push((noted.call, noted.place, noted.bytes.get().len()))?;
     }
-    assert_eq!(rt; calls.len(), 6);
-    assert_eq!(rt; calls[0], (DiskCall::WriteAt, 34, 8));
-    assert_eq!(rt; calls[1], (DiskCall::WriteAt, 42, 3));
-    assert_eq!(rt; calls[2], (DiskCall::WriteAt, 45, 1));
-    assert_eq!(rt; calls[3], (DiskCall::Sync, 0, 0));
-    assert_eq!(rt; calls[4], (DiskCall::WriteAt, 33, 1));
-    assert_eq!(rt; calls[5], (DiskCall::Sync, 0, 0));
+    assert_eq!(rt; calls.len(), 9);
+    assert_eq!(rt; calls[0], (DiskCall::Length, 0, 0));
+    assert_eq!(rt; calls[1], (DiskCall::ReadAt, 0, 0));
+    assert_eq!(rt; calls[2], (DiskCall::ReadAt, 32, 0));
+    assert_eq!(rt; calls[3], (DiskCall::WriteAt, 34, 8));
+    assert_eq!(rt; calls[4], (DiskCall::WriteAt, 42, 3));
+    assert_eq!(rt; calls[5], (DiskCall::WriteAt, 45, 1));
+    assert_eq!(rt; calls[6], (DiskCall::Sync, 0, 0));
+    assert_eq!(rt; calls[7], (DiskCall::WriteAt, 33, 1));
+    assert_eq!(rt; calls[8], (DiskCall::Sync, 0, 0));
+    assert_eq!(rt; disk.starved, 0);
     Ok(())
 }
 
@@ -157,5 +163,29 @@ fn a_failed_call_is_a_disk_fault(rt: HostRuntime) -> Result<(), Fail> {
         );
     }
     assert_eq!(rt; fault_at(alloc, DiskCall::Sync, 5)?, None);
+    Ok(())
+}
+
+#[test]
+fn each_fault_has_its_words(rt: HostRuntime) -> Result<(), Fail> {
+    let alloc = rt.alloc();
+    let full = CommitFault::Full {
+        used: 63,
+        asked: 10,
+    };
+    assert_eq!(rt;
+        full.to_string(alloc)?.as_str(),
+        "limit: area, 63 used, 10 asked"
+    );
+    assert_eq!(rt;
+        CommitFault::DiskFault.to_string(alloc)?.as_str(),
+        "disk fault"
+    );
+    let filled = InitFault::NotEmpty { length: 3 };
+    assert_eq!(rt; filled.to_string(alloc)?.as_str(), "not empty: 3 bytes");
+    assert_eq!(rt;
+        InitFault::DiskFault.to_string(alloc)?.as_str(),
+        "disk fault"
+    );
     Ok(())
 }

@@ -67,6 +67,31 @@ fn an_open_gate_with_no_whole_record_is_damage_at_its_place(rt: HostRuntime) -> 
 }
 
 #[test]
+fn another_version_byte_is_told(rt: HostRuntime) -> Result<(), Fail> {
+    let alloc = rt.alloc();
+    for byte in [0, 2, 7, 255] {
+        let file = file_of(alloc, 147, 0, &[byte, 0])?;
+        let want = Err(OpenFault::Version { byte });
+        assert_eq!(rt; answer_to(alloc, &file)?, want, "byte {byte}");
+    }
+    Ok(())
+}
+
+#[test]
+fn an_odd_side_byte_names_the_second_area(rt: HostRuntime) -> Result<(), Fail> {
+    let alloc = rt.alloc();
+    let mut file = file_of(alloc, 64, 3, &vec![in alloc; 0; 64]?)?;
+    let none = Err(OpenFault::NotAStore);
+    assert_eq!(rt; answer_to(alloc, &file)?, none, "no version");
+    file.push(1)?;
+    let no_gate = Err(OpenFault::Damaged { place: 97 });
+    assert_eq!(rt; answer_to(alloc, &file)?, no_gate);
+    file.push(0)?;
+    assert_eq!(rt; answer_to(alloc, &file)?, Ok(0));
+    Ok(())
+}
+
+#[test]
 fn a_record_must_end_inside_the_area(rt: HostRuntime) -> Result<(), Fail> {
     let alloc = rt.alloc();
     let mut area = b"\x01\x01\0\0\0\0\0\0\0\x35".to_vec(alloc)?;

@@ -1,4 +1,4 @@
-use Rattle.std.proofs.Common.{◌≡◌, ◌≤◌, ℕ, ◌+◌, ◌/◌, [], ◌∷◌, length, take, sym, ◌∙◌, ap, subst, arith, length-take}
+use Rattle.std.proofs.Common.{◌/◌, [], ◌∷◌, length, take, sym, subst, arith, length-take}
 use Rattle.std.specs.List.{Contains}
 use Rattle.disk_core.specs.Disk.{written}
 use Rattle.disk_core.specs.Torn.{IsTornOf}

@@ -1,5 +1,4 @@
-use Rattle.std.proofs.Common.{◌≡◌, ◌⊎◌, inl, inr, ℕ, ◌+◌, ◌<◌, ◌^◌, List, [], ◌∷◌, ◌++◌, length, get_or, take, drop, subst, sym, ◌∙◌, ap, arith, rules, length-take, length-drop}
-use Rattle.journal_core.specs.File.{big_endian}
+use Rattle.std.proofs.Common.{◌≡◌, inr, ℕ, ◌<◌, ◌^◌, List, ◌∷◌, length, get_or, subst, sym, ◌∙◌, ap, arith, rules, length-take, length-drop}
 use Rattle.journal_core.proofs.Fields.{lacks_length, lacks_body, record_read, take_bytes, bytes_behind}
 use Rattle.journal_core.proofs.area.next_record.Goals as goal
 

@@ -1,4 +1,4 @@
-use Rattle.std.proofs.Common.{◌≡◌, ℕ, List, [], ◌∷◌, ◌++◌, replicate, sym, ◌∙◌, ap, append_assoc}
+use Rattle.std.proofs.Common.{ℕ, List, [], ◌∷◌, replicate, sym, ◌∙◌, ap, append_assoc}
 use Rattle.journal_core.specs.File.{big_endian}
 use Rattle.journal_core.proofs.Parts.{is_big_endian}
 use Rattle.journal_core.proofs.create.first_bytes.Goals as goal

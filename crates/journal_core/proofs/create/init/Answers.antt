@@ -1,4 +1,4 @@
-use Rattle.std.proofs.Common.{◌≡◌, ◌≢◌, ℕ, ◌≤◌, List, [], length, Some, refl, sym, ◌∙◌, ap, subst, arith}
+use Rattle.std.proofs.Common.{length, refl, sym, ◌∙◌, ap, arith}
 use Rattle.std.proofs.lemmas.List.{nil_from_length}
 use Rattle.disk_core.specs.Disk.{Same}
 use Rattle.journal_core.proofs.Founding.{founds_none, founds_behind}
@@ -15,7 +15,7 @@ returns-in-Err-clause-any_moment_err g c = λ fault last now file is empty.
     let d = g.D.Disk in
     let read = goes_on_same d.content d.moment d.left_at c.args.disk c.args.disk c.length.new.self Same (started d.content d.moment d.left_at c.args.disk Same (λ f. refl))
     (λ f there. tells (d.content c.args.disk) f (c.length.ensures.told f there)) c.length.ensures.stop in
-    founds_none d.moment d.left_at c.args.disk c.length.new.self (read last now).1
+    founds_none d.moment d.left_at d.synced c.args.disk c.length.new.self (read last now).1 (c.length.ensures.syncs last now)
 
 pub returns-in-Ok-write_new-clause-empty : goal.returns-in-Ok-write_new-clause-empty
 returns-in-Ok-write_new-clause-empty g c = λ file is.
@@ -36,8 +36,10 @@ returns-in-Ok-write_new-clause-any_moment g c = λ last now.
     let read = goes_on_same d.content d.moment d.left_at c.args.disk c.args.disk c.length.new.self Same (started d.content d.moment d.left_at c.args.disk Same (λ f. refl))
     (λ f there. tells (d.content c.args.disk) f (c.length.ensures.told f there)) c.length.ensures.stop in
     let founds = c.in-Ok-write_new.ensures.any_moment last now mid.0 mid.1 empty in
-    let all = founds_behind d.moment d.left_at c.args.disk c.length.new.self c.write_new.new.disk (read mid.0 mid.1).1 founds.0 in
-    (all.0, omega (arith, all.1, founds.1))
+    let synced = founds.1 in (
+      founds_behind d.moment d.left_at d.synced c.args.disk c.length.new.self c.write_new.new.disk (read mid.0 mid.1).1 (c.length.ensures.syncs mid.0 mid.1) founds.0,
+      (synced.0, omega (arith, synced.1, (read mid.0 mid.1).1.later), synced.2, synced.3),
+    )
 
 pub returns-in-Err-write_new-clause-any_moment_err : goal.returns-in-Err-write_new-clause-any_moment_err
 returns-in-Err-write_new-clause-any_moment_err g c = λ fault last now file is empty.
@@ -47,4 +49,8 @@ returns-in-Err-write_new-clause-any_moment_err g c = λ fault last now file is e
     let read = goes_on_same d.content d.moment d.left_at c.args.disk c.args.disk c.length.new.self Same (started d.content d.moment d.left_at c.args.disk Same (λ f. refl))
     (λ f there. tells (d.content c.args.disk) f (c.length.ensures.told f there)) c.length.ensures.stop in
     let founds = c.in-Err-write_new.ensures.any_moment last now mid.0 mid.1 none in
-    (founds_behind d.moment d.left_at c.args.disk c.length.new.self c.write_new.new.disk (read mid.0 mid.1).1 founds.0).0
+    founds_behind d.moment d.left_at d.synced c.args.disk c.length.new.self c.write_new.new.disk (read mid.0 mid.1).1 (c.length.ensures.syncs mid.0 mid.1) founds.0
+
+pub returns-in-Err-write_new-clause-spared : goal.returns-in-Err-write_new-clause-spared
+returns-in-Err-write_new-clause-spared g c = λ file is filled.
+    absurd (filled (nil_from_length file (sym (c.in-Ok-eq0.ensures.value file is) ∙ c.in-Ok-eq0.field-0-test)))

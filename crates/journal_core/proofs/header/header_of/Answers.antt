@@ -1,4 +1,4 @@
-use Rattle.std.proofs.Common.{◌≡◌, ℕ, ◌≤◌, ◌<◌, List, length, take, drop, replicate, sym, ◌∙◌, ap, subst, arith, rules}
+use Rattle.std.proofs.Common.{◌≡◌, ℕ, List, take, drop, replicate, sym, ◌∙◌, ap, arith, rules}
 use Rattle.journal_core.specs.File.{magic}
 use Rattle.journal_core.proofs.Headers.{Cut, has_text, has_area, has_zeros, is_header}
 use Rattle.journal_core.proofs.header.header_of.Goals as goal

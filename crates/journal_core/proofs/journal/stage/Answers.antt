@@ -1,4 +1,4 @@
-use Rattle.std.proofs.Common.{◌≡◌, ℕ, ◌+◌, List, [], ◌∷◌, length, ◌∙◌, ap, arith, Some}
+use Rattle.std.proofs.Common.{◌≡◌, ℕ, ◌+◌, [], ◌∷◌, length, ◌∙◌, ap, arith, Some}
 use Rattle.std.specs.Option.{option_map}
 use Rattle.disk_core.specs.Disk.{written, Torn}
 use Rattle.journal_core.specs.File.{staged_record}

@@ -1,4 +1,4 @@
-use Rattle.std.proofs.Common.{ℕ, ◌+◌, ◌≤◌, List, Some, length, drop, ap, subst, sym, ◌∙◌, arith, length-drop, rules}
+use Rattle.std.proofs.Common.{◌+◌, ◌∙◌, arith, length-drop, rules}
 use Rattle.disk_core.specs.Disk.{Same}
 use Rattle.journal_core.proofs.Lists.{read_more}
 use Rattle.journal_core.proofs.Runs.{tells, goes_on_same}

@@ -1,8 +1,7 @@
-use Rattle.std.proofs.Common.{◌≡◌, ◌⊎◌, ℕ, ◌+◌, ◌-◌, ◌*◌, ◌≤◌, ◌<◌, ◌^◌, min, List, length, take, drop, Some, refl, sym, ◌∙◌, ap, subst, arith}
+use Rattle.std.proofs.Common.{ℕ, ◌+◌, ◌*◌, ◌≤◌, ◌<◌, length, sym, ◌∙◌, ap, subst, arith}
 use Rattle.journal_core.specs.declared.header.Header.{Header}
-use Rattle.journal_core.specs.File.{HasHeader, base_of, inside_of}
-use Rattle.journal_core.specs.Area.{Refuses}
-use Rattle.journal_core.specs.Open.{IsCauseOf, refusal_of}
+use Rattle.journal_core.specs.File.{HasHeader}
+use Rattle.journal_core.specs.Open.{IsCauseOf}
 use Rattle.journal_core.proofs.Opens.{cause_of, placed_of, no_header, inside_is, holds_read, used_within}
 use Rattle.journal_core.proofs.Runs.{match_some, match_none}
 use Rattle.journal_core.proofs.open.read_file.Goals as goal

@@ -1,6 +1,5 @@
-use Rattle.std.proofs.Common.{◌≡◌, ℕ, ◌≤◌, ◌<◌, List, length, take, drop, refl, sym, ◌∙◌, ap, arith, length-take}
+use Rattle.std.proofs.Common.{◌≡◌, ℕ, ◌≤◌, ◌<◌, length, take, sym, ◌∙◌, ap, arith, length-take}
 use Rattle.std.proofs.lemmas.List.{take_all}
-use Rattle.journal_core.specs.File.{HasHeader}
 use Rattle.journal_core.proofs.Headers.{too_short, header_of_front, front_of_header}
 use Rattle.journal_core.proofs.Runs.{match_of}
 use Rattle.journal_core.proofs.open.read_header.Goals as goal

@@ -1,4 +1,3 @@
-use Rattle.std.proofs.Common.{refl}
 use Rattle.disk_core.proofs.PastLemmas.{passes_same_in}
 use Rattle.disk_core.proofs.memory.MemoryDisk.pass.Goals as goal
 

@@ -1,11 +1,10 @@
-use Rattle.std.proofs.Common.{◌≡◌, ℕ, ◌+◌, ◌*◌, ◌≤◌, List, [], ◌∷◌, ◌++◌, length, Some, ◌∙◌, ap, subst, sym, arith}
-use Rattle.disk_core.specs.Disk.{written, Torn}
+use Rattle.std.proofs.Common.{◌≡◌, ℕ, List, [], ◌∷◌, ◌++◌, length, Some, ◌∙◌, ap, subst, sym, arith}
 use Rattle.journal_core.specs.File.{listed, HoldsAt}
 use Rattle.journal_core.specs.Journal.{area_of, side_of, used_of, disk_of, HoldsEither}
 use Rattle.journal_core.proofs.Parts.{length-listed-push}
 use Rattle.journal_core.proofs.Runs.{told, some_same, leaves_on}
 use Rattle.journal_core.proofs.Meanings.{holds_same}
-use Rattle.journal_core.proofs.Commits.{idle, staging, staged_file, opening, opened_file, with_record}
+use Rattle.journal_core.proofs.Commits.{idle, staging, staged_file, opening, opened_file}
 use Rattle.journal_core.proofs.journal.Journal.commit.Goals as goal
 
 pub returns-then-self-length-clause-any_moment : goal.returns-then-self-length-clause-any_moment
