@@ -22,10 +22,12 @@ pub struct MemoryHost {
 }
 
 impl MemoryHost {
+    ghost use Rattle.link_core.specs.Memory.{links_held, console_calls_of, links_of, host_faults, host_failing, SameCounts};
+
     /// A host with nothing to hand out. The calls of the listed numbers, from 0, fail.
     pub fn new(alloc: Global, failing: Vec<u64>) -> Self
-        ensures start { (result.consoles.items ≡ []) × (result.console_calls ≡ 0) × (result.links ≡ 0) × (result.faults ≡ 0) }
-        ensures failing { result.failing ≡ failing }
+        ensures start { (links_held result ≡ []) × (console_calls_of result ≡ 0) × (links_of result ≡ 0) × (host_faults result ≡ 0) }
+        ensures failing { host_failing result ≡ failing.items }
     {
         MemoryHost {
             consoles: VecDeque::new(alloc),
@@ -38,8 +40,9 @@ impl MemoryHost {
 
     /// Adds a link that `console` hands out after those that were added before.
     pub fn add_console(&mut self, link: MemoryLink) -> Result<(), AllocError>
-        ensures added { OnOk result (self.new.consoles.items ≡ self.old.consoles.items ++ link ∷ []) }
-        ensures unchanged { OnErr result (self.new.consoles.items ≡ self.old.consoles.items) }
+        ensures added { OnOk result (links_held self.new ≡ links_held self.old ++ link ∷ []) }
+        ensures unchanged { OnErr result (links_held self.new ≡ links_held self.old) }
+        ensures counts { SameCounts self.old self.new }
     {
         self.consoles.push_back(link)?;
         Ok(())
@@ -47,14 +50,14 @@ impl MemoryHost {
 
     /// How often `console` was called.
     pub fn console_calls(&self) -> u64
-        ensures { result ≡ self.now.console_calls }
+        ensures { result ≡ console_calls_of self.now }
     {
         self.console_calls
     }
 
     /// How often a call has failed.
     pub fn faults(&self) -> u64
-        ensures { result ≡ self.now.faults }
+        ensures { result ≡ host_faults self.now }
     {
         self.faults
     }
@@ -63,26 +66,27 @@ impl MemoryHost {
 impl Host for MemoryHost {
     type Link = MemoryLink;
 
-    ghost use Rattle.link_core.specs.Memory.{taken_of, left_of, written_of, is_closed, faults_of, consoles_of, HostFails};
+    ghost use Rattle.link_core.specs.Memory.{taken_of, left_of, written_of, is_closed, faults_of, consoles_of, console_calls_of, links_of, host_faults, host_failing, HostFails};
 
     ghost consoles = { consoles_of };
 
-    ghost console_calls = { λ h. h.console_calls };
+    ghost console_calls = { console_calls_of };
 
-    ghost links = { λ h. h.links };
+    ghost links = { links_of };
 
-    ghost faults = { λ h. h.faults };
+    ghost faults = { host_faults };
 
     fn console(&mut self) -> Result<MemoryLink, HostFault>
         ensures handed { HandsOut left_of taken_of written_of (consoles_of self.old) (consoles_of self.new) result }
         ensures fresh { IfOk result (λ link. IsFresh faults_of is_closed taken_of written_of link) }
-        ensures links { CountsOk self.old.links self.new.links result }
-        ensures full { self.old.links ≡ 2 ^ 64 - 1 → IsErrOf result HostFault.Failed }
-        ensures calls { Counts self.old.console_calls self.new.console_calls }
-        ensures later { self.old.faults ≤ self.new.faults }
-        ensures cause { IsErrOf result HostFault.Failed → Rose self.old.faults self.new.faults }
+        ensures links { CountsOk (links_of self.old) (links_of self.new) result }
+        ensures full { links_of self.old ≡ 2 ^ 64 - 1 → IsErrOf result HostFault.Failed }
+        ensures calls { Counts (console_calls_of self.old) (console_calls_of self.new) }
+        ensures later { host_faults self.old ≤ host_faults self.new }
+        ensures cause { IsErrOf result HostFault.Failed → Rose (host_faults self.old) (host_faults self.new) }
 
         ensures listed { IsErr result ↔ HostFails self.old }
+        ensures failing { host_failing self.new ≡ host_failing self.old }
     {
         let listed = is_listed(&self.failing, self.console_calls);
         self.console_calls = self.console_calls.saturating_add(1);

@@ -1,8 +1,8 @@
 //! A link over bytes in memory.
-ghost use Rattle.std.specs.Prelude.{◌≡◌, ◌≤◌, ◌^◌, ◌↔◌, vec_len, take, drop, [], false, true, IsErr, IfOk, OnErr};
+ghost use Rattle.std.specs.Prelude.{◌≡◌, ◌≤◌, ◌⊎◌, ◌^◌, ◌↔◌, vec_len, length, min, [], false, Some, IsErr, IfOk, OnOk, OnErr};
 ghost use Rattle.std.specs.Io.{ReadsAtMost};
 ghost use Rattle.std.specs.Io.KnownBytes.{Keeps, ReadConsumes};
-ghost use Rattle.link_core.specs.Causes.{HasCause};
+ghost use Rattle.link_core.specs.Causes.{HasCause, Rose};
 ghost use Rattle.link_core.specs.Link.{ReadGives, Takes, AppendsFront, Spends};
 
 use crate::script::{is_listed, listed_length};
@@ -33,6 +33,8 @@ pub struct MemoryLink {
 }
 
 impl MemoryLink {
+    ghost use Rattle.link_core.specs.Memory.{console_bytes, taken_of, left_of, written_of, given_of, is_closed, faults_of, script_of, script};
+
     /// A link with these bytes to read. Its n-th read gives at most the n-th of the read lengths, and a 0 there counts
     /// as 1; its n-th write takes at most the n-th of the write lengths; past a list's end all. The calls of the listed
     /// numbers fail; reads and writes are numbered together, from 0.
@@ -43,10 +45,9 @@ impl MemoryLink {
         write_lengths: Vec<usize>,
         failing: Vec<u64>,
     ) -> Self
-        ensures bytes { result.bytes ≡ bytes }
-        ensures start { (result.given ≡ 0) × (result.written.items ≡ []) × (result.closed ≡ false) × (result.faults ≡ 0) }
-        ensures lengths { (result.read_lengths ≡ read_lengths) × (result.write_lengths ≡ write_lengths) }
-        ensures failing { (result.failing ≡ failing) × (result.calls ≡ 0) × (result.reads ≡ 0) × (result.writes ≡ 0) }
+        ensures bytes { (console_bytes result ≡ bytes.items) × (left_of result ≡ Some bytes.items) × (taken_of result ≡ Some []) }
+        ensures start { (written_of result ≡ Some []) × (is_closed result ≡ false) × (faults_of result ≡ 0) }
+        ensures script { script_of result ≡ script read_lengths.items write_lengths.items failing.items }
     {
         MemoryLink {
             bytes,
@@ -66,8 +67,9 @@ impl MemoryLink {
 
     /// A link with these bytes to read, of which each call moves as much as it can and none fails.
     pub fn of(alloc: Global, bytes: &[u8]) -> Result<Self, AllocError>
-        ensures bytes { IfOk result (λ link. link.bytes.items ≡ bytes.now) }
-        ensures plain { IfOk result (λ link. (link.read_lengths.items ≡ []) × (link.write_lengths.items ≡ []) × (link.failing.items ≡ [])) }
+        ensures bytes { IfOk result (λ link. (console_bytes link ≡ bytes.now) × (left_of link ≡ Some bytes.now) × (taken_of link ≡ Some [])) }
+        ensures start { IfOk result (λ link. (written_of link ≡ Some []) × (is_closed link ≡ false) × (faults_of link ≡ 0)) }
+        ensures script { IfOk result (λ link. script_of link ≡ script [] [] []) }
     {
         let none = Vec::new(alloc);
         let bytes = Vec::from_slice(alloc, bytes)?;
@@ -76,12 +78,8 @@ impl MemoryLink {
 
     /// The same link before its first call.
     pub(crate) fn afresh(mut self) -> Self
-        ensures bytes { result.bytes ≡ self.bytes }
-        ensures left { drop result.given result.bytes.items ≡ self.bytes.items }
-        ensures taken { take result.given result.bytes.items ≡ [] }
-        ensures written { result.written.items ≡ [] }
-        ensures closed { result.closed ≡ false }
-        ensures faults { result.faults ≡ 0 }
+        ensures bytes { (console_bytes result ≡ console_bytes self) × (left_of result ≡ Some (console_bytes self)) × (taken_of result ≡ Some []) }
+        ensures start { (written_of result ≡ Some []) × (is_closed result ≡ false) × (faults_of result ≡ 0) }
     {
         self.given = 0;
         self.written.clear();
@@ -96,35 +94,35 @@ impl MemoryLink {
 
     /// What was written so far.
     pub fn written(&self) -> &[u8]
-        ensures { result.now ≡ self.now.written.items }
+        ensures { written_of self.now ≡ Some result.now }
     {
         &self.written
     }
 
     /// How many bytes reads have given.
     pub fn given(&self) -> usize
-        ensures { result ≡ self.now.given }
+        ensures { result ≡ given_of self.now }
     {
         self.given
     }
 
     /// Whether the link was closed.
     pub fn is_closed(&self) -> bool
-        ensures { result ≡ self.now.closed }
+        ensures { result ≡ is_closed self.now }
     {
         self.closed
     }
 
     /// How often a call has failed, for whatever cause.
     pub fn faults(&self) -> u64
-        ensures { result ≡ self.now.faults }
+        ensures { result ≡ faults_of self.now }
     {
         self.faults
     }
 }
 
 impl Link for MemoryLink {
-    ghost use Rattle.link_core.specs.Memory.{taken_of, left_of, written_of, reads_of, FailsNext, WriteFails};
+    ghost use Rattle.link_core.specs.Memory.{taken_of, left_of, written_of, is_closed, faults_of, reads_of, script_of, given_next, taken_next, FailsNext, IsToFail};
 
     ghost taken = { taken_of };
 
@@ -132,9 +130,9 @@ impl Link for MemoryLink {
 
     ghost written = { written_of };
 
-    ghost closed = { λ l. l.closed };
+    ghost closed = { is_closed };
 
-    ghost faults = { λ l. l.faults };
+    ghost faults = { faults_of };
 
     ghost reads = { reads_of };
 
@@ -144,12 +142,13 @@ impl Link for MemoryLink {
         ensures left { ReadConsumes (left_of self.old) (left_of self.new) result into.new }
         ensures reads { Spends (reads_of self.old) (reads_of self.new) result }
         ensures few { reads_of self.old ≤ 2 ^ 63 }
-        ensures cause { HasCause self.old.faults self.new.faults result }
+        ensures cause { HasCause (faults_of self.old) (faults_of self.new) result }
 
         ensures written { Keeps (written_of self.old) (written_of self.new) }
-        ensures closed { self.new.closed ≡ self.old.closed }
+        ensures closed { is_closed self.new ≡ is_closed self.old }
 
-        ensures listed { IsErr result ↔ FailsNext self.old }
+        ensures listed { IsErr result ↔ FailsNext (script_of self.old) }
+        ensures gives { IfOk result (λ n. n ≡ given_next (script_of self.old) (min (length into.new) (reads_of self.old))) }
     {
         let listed = is_listed(&self.failing, self.calls);
         self.calls = self.calls.saturating_add(1);
@@ -169,14 +168,16 @@ impl Link for MemoryLink {
     fn write(&mut self, piece: &[u8]) -> Result<usize, Failed>
         ensures bound { Takes piece.now result }
         ensures written { AppendsFront (written_of self.old) (written_of self.new) piece.now result }
-        ensures cause { HasCause self.old.faults self.new.faults result }
+        ensures cause { HasCause (faults_of self.old) (faults_of self.new) result }
 
         ensures taken { Keeps (taken_of self.old) (taken_of self.new) }
         ensures left { Keeps (left_of self.old) (left_of self.new) }
         ensures reads { reads_of self.new ≤ reads_of self.old }
-        ensures closed { self.new.closed ≡ self.old.closed }
+        ensures closed { is_closed self.new ≡ is_closed self.old }
 
-        ensures listed { OnErr result (WriteFails self.old self.new piece.now) }
+        ensures listed { OnErr result (IsToFail (script_of self.old) piece.now ⊎ Rose self.old.starved self.new.starved) }
+        ensures passed { OnOk result (¬ IsToFail (script_of self.old) piece.now) }
+        ensures takes { IfOk result (λ n. n ≡ taken_next (script_of self.old) piece.now) }
     {
         let listed = is_listed(&self.failing, self.calls);
         self.calls = self.calls.saturating_add(1);

@@ -1,6 +1,6 @@
 //! A sink into memory.
-ghost use Rattle.std.specs.Prelude.{◌≡◌, [], Some, OnErr};
-ghost use Rattle.link_core.specs.Causes.{HasCause};
+ghost use Rattle.std.specs.Prelude.{◌≡◌, ◌⊎◌, [], Some, IfOk, OnOk, OnErr};
+ghost use Rattle.link_core.specs.Causes.{HasCause, Rose};
 ghost use Rattle.link_core.specs.Link.{Takes, AppendsFront};
 
 use crate::script::{is_listed, listed_length};
@@ -25,11 +25,13 @@ pub struct MemorySink {
 }
 
 impl MemorySink {
+    ghost use Rattle.link_core.specs.Memory.{sink_written, sink_faults, sink_script, script};
+
     /// An empty sink. Its n-th write takes at most the n-th of the lengths, past the list's end all. The calls of the
     /// listed numbers, from 0, fail.
     pub fn new(alloc: Global, lengths: Vec<usize>, failing: Vec<u64>) -> Self
-        ensures start { (result.written.items ≡ []) × (result.faults ≡ 0) × (result.calls ≡ 0) × (result.writes ≡ 0) }
-        ensures listed { (result.lengths ≡ lengths) × (result.failing ≡ failing) }
+        ensures start { (sink_written result ≡ Some []) × (sink_faults result ≡ 0) }
+        ensures script { sink_script result ≡ script [] lengths.items failing.items }
     {
         MemorySink {
             written: Vec::new(alloc),
@@ -44,32 +46,34 @@ impl MemorySink {
 
     /// What was written so far.
     pub fn written(&self) -> &[u8]
-        ensures { result.now ≡ self.now.written.items }
+        ensures { sink_written self.now ≡ Some result.now }
     {
         &self.written
     }
 
     /// How often a call has failed, for whatever cause.
     pub fn faults(&self) -> u64
-        ensures { result ≡ self.now.faults }
+        ensures { result ≡ sink_faults self.now }
     {
         self.faults
     }
 }
 
 impl Sink for MemorySink {
-    ghost use Rattle.link_core.specs.Memory.{SinkFails};
+    ghost use Rattle.link_core.specs.Memory.{sink_written, sink_faults, sink_script, taken_next, IsToFail};
 
-    ghost written = { λ s. Some s.written.items };
+    ghost written = { sink_written };
 
-    ghost faults = { λ s. s.faults };
+    ghost faults = { sink_faults };
 
     fn write(&mut self, piece: &[u8]) -> Result<usize, Failed>
         ensures bound { Takes piece.now result }
-        ensures written { AppendsFront (Some self.old.written.items) (Some self.new.written.items) piece.now result }
-        ensures cause { HasCause self.old.faults self.new.faults result }
+        ensures written { AppendsFront (sink_written self.old) (sink_written self.new) piece.now result }
+        ensures cause { HasCause (sink_faults self.old) (sink_faults self.new) result }
 
-        ensures listed { OnErr result (SinkFails self.old self.new piece.now) }
+        ensures listed { OnErr result (IsToFail (sink_script self.old) piece.now ⊎ Rose self.old.starved self.new.starved) }
+        ensures passed { OnOk result (¬ IsToFail (sink_script self.old) piece.now) }
+        ensures takes { IfOk result (λ n. n ≡ taken_next (sink_script self.old) piece.now) }
     {
         let listed = is_listed(&self.failing, self.calls);
         self.calls = self.calls.saturating_add(1);
