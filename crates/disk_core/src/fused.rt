@@ -76,17 +76,17 @@ impl<D: Disk> Disk for FusedDisk<D> {
     ghost use Rattle.disk_core.specs.Disk.{written, Torn, IsSettled, HasCause};
     ghost use Rattle.disk_core.specs.Fused.{inner_of, refused_of, Fuses};
 
-    ghost content = { λ disk. D.content disk.inner };
+    ghost content = { λ disk. D.content (inner_of disk) };
 
-    ghost moment = { λ disk. D.moment disk.inner };
+    ghost moment = { λ disk. D.moment (inner_of disk) };
 
-    ghost left_at = { λ disk. D.left_at disk.inner };
+    ghost left_at = { λ disk. D.left_at (inner_of disk) };
 
-    ghost synced = { λ disk. D.synced disk.inner };
+    ghost synced = { λ disk. D.synced (inner_of disk) };
 
-    ghost faults = { λ disk. D.faults disk.inner + disk.refused };
+    ghost faults = { λ disk. D.faults (inner_of disk) + refused_of disk };
 
-    ghost reads_as_image = { λ disk. D.reads_as_image disk.inner };
+    ghost reads_as_image = { λ disk. D.reads_as_image (inner_of disk) };
 
     fn length(&mut self) -> Result<u64, Failed>
         ensures value { IfOk result (λ n. ForSome (D.content (inner_of self.old)) (λ file. n ≡ length file)) }
