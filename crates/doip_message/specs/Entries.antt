@@ -4,14 +4,16 @@ use Rattle.std.specs.Ordering.{nat_cmp}
 use Rattle.std.specs.Cmp.Lexicographic.{slice_cmp}
 use Rattle.std.specs.BTreeMap.{insert_entry}
 use Rattle.doip_json.specs.Value.{Value, text}
-use Rattle.doip_message.specs.Reply.{Replied, attributes_value, output_value, status_text}
+use Rattle.doip_message.specs.declared.response.Status.{Status}
+use Rattle.doip_message.specs.Reply.{status_text}
 
 -- the value at the key, where there is one
 abbrev pub put_some : List (List ℕ × Value) → List ℕ → Option Value → List (List ℕ × Value)
 put_some es key None = es
 put_some es key (Some v) = insert_entry (slice_cmp nat_cmp) es key v
 
-abbrev pub put_all : Replied → List (List ℕ × Value)
-put_all p =
-    put_some (put_some (put_some (put_some [] (codes "attributes") (attributes_value p.attributes)) (codes "output") (output_value p.output))
-    (codes "requestId") (option_map text p.request_id)) (codes "status") (Some (text (status_text p.status)))
+-- the attributes, the output, the client's mark and the status
+abbrev pub put_all : Option Value → Option Value → Option (List ℕ) → Status → List (List ℕ × Value)
+put_all attributes output mark status =
+    put_some (put_some (put_some (put_some [] (codes "attributes") attributes) (codes "output") output) (codes "requestId") (option_map text mark))
+    (codes "status") (Some (text (status_text status)))

@@ -403,13 +403,13 @@ fn each_response_has_its_first_segment(rt: HostRuntime) -> Result<(), Fail> {
             },
             None => Body::Nothing,
         };
-        let made = response_message(
-            alloc,
-            &response(alloc, mark, Status::Done, message, output)?,
-        )?;
+        let answered = response(alloc, mark, Status::Done, message, output)?;
+        let made = response_message(alloc, &answered)?;
         assert_eq!(rt; made.count(), 1);
         assert!(rt; matches!(made.kind(0), Kind::Json));
         assert_eq!(rt; made.bytes(0), want);
+        let moved = answered.into_message(alloc)?;
+        assert_eq!(rt; (moved.count(), moved.bytes(0)), (1, want));
     }
     Ok(())
 }
@@ -431,6 +431,8 @@ fn parts_stand_behind_the_first_segment(rt: HostRuntime) -> Result<(), Fail> {
     assert_eq!(rt; message.bytes(1), b"".as_slice());
     assert!(rt; matches!(message.kind(2), Kind::Json));
     assert_eq!(rt; message.bytes(2), b"[ 1 ]".as_slice());
+    let moved = answered.into_message(alloc)?;
+    assert_eq!(rt; (moved.count(), moved.bytes(2)), (3, message.bytes(2)));
     Ok(())
 }
 

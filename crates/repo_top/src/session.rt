@@ -12,7 +12,7 @@ ghost use Rattle.repo_top.specs.Serving.{Served};
 
 use crate::{Past, SessionEnd};
 use doip_json::Bytes;
-use doip_message::{FRAMING_TEXT, MEMORY_TEXT, fixed_texts_are_replies, response_message};
+use doip_message::{FRAMING_TEXT, MEMORY_TEXT, fixed_texts_are_replies};
 use doip_segment::{Decoder, Message, each_stream_has_one_framing, encode};
 use link_core::Link;
 use repo_step::{Config, Outcome, answer};
@@ -24,7 +24,7 @@ fn reply_of(alloc: Global, config: &Config, message: &Message) -> Result<Bytes, 
     ensures { IfOk result (λ text. text ≡ reply_text (step config.now message.now.segments)) }
 {
     let planned = answer(alloc, config, message)?;
-    let message = response_message(alloc, &planned.response)?;
+    let message = planned.response.into_message(alloc)?;
     encode(alloc, &message)
 }
 
