@@ -1,5 +1,5 @@
 -- What a host hands out. This project's own.
-use Rattle.std.specs.Prelude.{◌≡◌, ◌+◌, ◌-◌, ◌^◌, ℕ, List, Option, [], ◌∷◌, Bool, false, MatchResult, Result, None, Some, ⊤}
+use Rattle.std.specs.Prelude.{◌≡◌, ◌+◌, ℕ, List, Option, [], ◌∷◌, Bool, false, MatchResult, Result, None, Some, ⊤}
 use Rattle.std.specs.Io.KnownBytes.{IsAtEnd}
 
 -- the count of what was handed out grows by one with each Ok, and at no other time

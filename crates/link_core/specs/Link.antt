@@ -1,5 +1,5 @@
 -- What the calls of a link do to its bytes and to its number of reads. This project's own, after std's readers and writers.
-use Rattle.std.specs.Prelude.{◌≡◌, ◌<◌, ◌≤◌, ℕ, List, Option, length, take, MatchResult, Result}
+use Rattle.std.specs.Prelude.{◌<◌, ◌≤◌, ℕ, List, Option, length, take, MatchResult, Result}
 use Rattle.std.specs.Io.KnownBytes.{Keeps, Appends}
 
 -- a read that answers n gave the first n bytes of the buffer, and one that failed gave none

@@ -1,6 +1,5 @@
 -- What the forms in memory hold, and when their calls fail. This project's own.
 use Rattle.std.specs.Prelude.{◌≡◌, ◌<◌, ◌-◌, ◌^◌, ◌⊎◌, ℕ, Bool, List, [], map, Option, Some, min, max, length, take, drop, vec_len, Contains, slice_index_or}
-use Rattle.link_core.specs.Causes.{Rose}
 use Rattle.link_core.specs.declared.memory_link.MemoryLink.{MemoryLink}
 use Rattle.link_core.specs.declared.memory_sink.MemorySink.{MemorySink}
 use Rattle.link_core.specs.declared.memory_host.MemoryHost.{MemoryHost}

@@ -1,4 +1,4 @@
-use Rattle.std.proofs.Common.{◌≤◌, ◌+◌, ℕ, length, drop, arith, length-append, length-drop, vec_len}
+use Rattle.std.proofs.Common.{◌≤◌, ◌+◌, length, drop, arith, length-append, length-drop}
 use Rattle.std.proofs.lemmas.List.{drop_all}
 use Rattle.link_core.proofs.Copied.{IsNext, next_range, given_grows, left_falls}
 use Rattle.link_core.proofs.memory_link.MemoryLinkLink.read.Goals as goal
