@@ -14,10 +14,10 @@ use Rattle.doip_json.specs.Places.{key_of, IsGapFor}
 use Rattle.doip_json.specs.Look.{entry_of}
 use Rattle.doip_json.proofs.Ascending.{Pairs, compared, compared_self, above, below, earlier_below}
 
-lower_differs : (k l : List ℕ) → compared l k ≡ Less → pointwise nat_eq k l ≡ false
+pub lower_differs : (k l : List ℕ) → compared l k ≡ Less → pointwise nat_eq k l ≡ false
 lower_differs k l e = texts_ties k l ∙ ap is_eq (above k l e)
 
-greater_differs : (k l : List ℕ) → compared l k ≡ Greater → pointwise nat_eq k l ≡ false
+pub greater_differs : (k l : List ℕ) → compared l k ≡ Greater → pointwise nat_eq k l ≡ false
 greater_differs k l e = texts_ties k l ∙ ap is_eq (below l k e)
 
 pub same_key : (k l : List ℕ) → l ≡ k → pointwise nat_eq k l ≡ true

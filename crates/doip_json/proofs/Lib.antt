@@ -14,3 +14,5 @@ pub mod OneLine
 pub mod Depths
 pub mod Shape
 pub mod Building
+pub mod Removed
+pub mod PlainLists

@@ -2,7 +2,7 @@
 use Rattle.std.specs.Prelude.{ℕ, suc, max, ℤ, List, [], ◌∷◌, Bool}
 
 mutual
-  -- null, a truth value, a whole number, a text as its UTF-8 bytes, a list, or a table
+  -- null, a boolean, an integer, a string as its UTF-8 bytes, an array, or an object
   pub data Value : Type 0 where
     null : Value
     truth : Bool → Value
@@ -11,12 +11,12 @@ mutual
     list : Values → Value
     table : Entries → Value
 
-  -- the items of a list, in order
+  -- the items of an array, in order
   pub data Values : Type 0 where
     no_values : Values
     value : Value → Values → Values
 
-  -- the entries of a table, each a key and its value, ascending by the keys' bytes
+  -- the entries of an object, each a key and its value, ascending by the keys' bytes
   pub data Entries : Type 0 where
     no_entries : Entries
     entry : List ℕ → Value → Entries → Entries
@@ -31,7 +31,17 @@ abbrev pub entries_from : List (List ℕ × Value) → Entries
 entries_from [] = no_entries
 entries_from (e ∷ es) = entry e.0 e.1 (entries_from es)
 
--- How deep lists and tables nest: 0 for what is neither, else one more than the deepest value in it.
+-- the items as a plain list
+abbrev pub values_in : Values → List Value
+values_in no_values = []
+values_in (value v vs) = v ∷ values_in vs
+
+-- the entries as a plain list of pairs
+abbrev pub entries_in : Entries → List (List ℕ × Value)
+entries_in no_entries = []
+entries_in (entry k v es) = (k, v) ∷ entries_in es
+
+-- How deep arrays and objects nest: 0 for what is neither, else one more than the deepest value in it.
 abbrev mutual
   pub depth_of : Value → ℕ
   depth_of null = 0

@@ -1,7 +1,7 @@
 //! Laws over reading and writing.
-ghost use Rattle.std.specs.Prelude.{◌≡◌, ◌≢◌, ◌≤◌, Ok};
+ghost use Rattle.std.specs.Prelude.{◌≡◌, ◌≢◌, ◌≤◌, ℕ, List, Ok};
 ghost use Rattle.std.specs.List.{AllByRecursion};
-ghost use Rattle.doip_json.specs.Value.{depth_of};
+ghost use Rattle.doip_json.specs.Value.{Value, Values, Entries, values_from, entries_from, values_in, entries_in, depth_of};
 ghost use Rattle.doip_json.specs.Meaning.{value_of};
 ghost use Rattle.doip_json.specs.Text.{text_of};
 ghost use Rattle.doip_json.specs.Read.{reading};
@@ -26,3 +26,12 @@ pub fn is_one_line(value: &Json)
 {
     value.recall();
 }
+
+/// The items of an array and the entries of an object are lists, both ways, so that definitions can filter, map and fold
+/// them. It does nothing when it runs.
+pub fn items_and_entries_are_lists()
+    ensures values { (vs : Values) → values_from (values_in vs) ≡ vs }
+    ensures listed_values { (vs : List Value) → values_in (values_from vs) ≡ vs }
+    ensures entries { (es : Entries) → entries_from (entries_in es) ≡ es }
+    ensures listed_entries { (es : List (List ℕ × Value)) → entries_in (entries_from es) ≡ es }
+{}

@@ -24,11 +24,11 @@ mod tests;
 mod value;
 mod writing;
 
-pub use law::{is_one_line, reads_back};
+pub use law::{is_one_line, items_and_entries_are_lists, reads_back};
 pub use leaf::{Bytes, Num, Str};
 pub use look::get;
 pub use pointer::at_pointer;
 pub use reading::{JsonFault, read};
-pub use same::{copy, copy_map, is_same};
+pub use same::{copy, copy_map, is_same, is_same_map};
 pub use value::{Json, JsonList, JsonMap};
 pub use writing::text;

@@ -6,7 +6,6 @@ ghost use Rattle.doip_json.specs.Meaning.{value_of};
 ghost use Rattle.doip_json.specs.Look.{entry_of};
 ghost use Rattle.doip_json.specs.Pointer.{pointed, named_by, position_in, is_position, unescaped};
 
-use crate::look::entry;
 use crate::value::{Json, JsonMap};
 
 /// The value that a JSON pointer names. It takes no memory.
@@ -90,7 +89,7 @@ fn named<'a>(map: &'a JsonMap, token: &str) -> Option<&'a Json>
         ≡ option_and_then (λ key. entry_of key (entries_from map.now)) (unescaped token.now) }
 {
     if !token.contains('~') {
-        return entry(map, token);
+        return map.get(token);
     }
     for i in 0..map.len() {
         if writes(token.as_bytes(), map.key_at(i).get().as_bytes()) {

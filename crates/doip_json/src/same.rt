@@ -17,7 +17,7 @@ pub fn is_same(a: &Json, b: &Json) -> bool
         (Json::Whole(x), Json::Whole(y)) => x.get() == y.get(),
         (Json::Text(x), Json::Text(y)) => x.get() == y.get(),
         (Json::Items(x), Json::Items(y)) => are_same(x, y),
-        (Json::Table(x), Json::Table(y)) => have_same(x, y),
+        (Json::Table(x), Json::Table(y)) => is_same_map(x, y),
         _ => false,
     }
 }
@@ -37,8 +37,9 @@ fn are_same(a: &JsonList, b: &JsonList) -> bool
     true
 }
 
+/// Whether the JSON objects are equal. It ends at the first difference.
 #[cycle(same)]
-fn have_same(a: &JsonMap, b: &JsonMap) -> bool
+pub fn is_same_map(a: &JsonMap, b: &JsonMap) -> bool
     ensures { IsTrue result ↔ (a.now ≡ b.now) }
 {
     if a.len() != b.len() {

@@ -1,9 +1,9 @@
 //! A JSON value, its lists and its tables.
-ghost use Rattle.std.specs.Prelude.{◌≡◌, ◌≢◌, ◌<◌, List, ℕ, [], ◌∷◌, ◌++◌, length, slice_get, OnOk, OnErr, IfOk, IfErr, IsSome, IsNone, Some, map, option_map};
+ghost use Rattle.std.specs.Prelude.{◌≡◌, ◌≢◌, ◌<◌, List, ℕ, nat_eq, [], ◌∷◌, ◌++◌, length, slice_get, OnOk, OnErr, IfOk, IfErr, IsSome, IsNone, Some, None, map, option_map};
 ghost use Rattle.std.specs.Ordering.{nat_cmp};
-ghost use Rattle.std.specs.Cmp.Lexicographic.{slice_cmp};
+ghost use Rattle.std.specs.Cmp.Lexicographic.{slice_cmp, pointwise};
 ghost use Rattle.std.specs.BTreeMap.{insert_entry};
-ghost use Rattle.std.specs.Map.{keys_of, values_of};
+ghost use Rattle.std.specs.Map.{keys_of, values_of, remove_entry};
 ghost use Rattle.doip_json.specs.Places.{IsPlaceOf, IsGapFor};
 ghost use Rattle.doip_json.specs.Sound.{IsAscending};
 
@@ -148,11 +148,19 @@ impl JsonList {
         self.items.len()
     }
 
+    /// The item of this number, from 0.
     pub fn item(&self, i: usize) -> &Json
         requires { i < length self.now }
         ensures { slice_get self.now i ≡ Some (value_of result.now) }
     {
         &self.items[i]
+    }
+
+    /// The items, in order.
+    pub fn items(&self) -> &[Json]
+        ensures { map value_of result.now ≡ self.now }
+    {
+        &self.items
     }
 }
 
@@ -220,6 +228,42 @@ impl JsonMap {
         }
     }
 
+    /// Removes the key, and returns its value with no copy. `None` exactly when the object lacks the key, and then it stays
+    /// as it was. The entries after it move by one place.
+    pub fn remove(&mut self, key: &str) -> Option<Json>
+        ensures value { option_map value_of result ≡ entry_of key.now (entries_from self.old) }
+        ensures rest { self.new ≡ remove_entry (pointwise nat_eq key.now) self.old }
+        ensures gone { entry_of key.now (entries_from self.new) ≡ None }
+        ensures others { (other : List ℕ) → other ≢ key.now →
+            entry_of other (entries_from self.new) ≡ entry_of other (entries_from self.old) }
+    {
+        match self.place_of(key) {
+            Ok(at) => {
+                let (_, value) = self.entries.remove(at);
+                Some(value)
+            }
+            Err(_) => None,
+        }
+    }
+
+    /// The value at the key, `None` exactly when the object lacks the key. It searches in halves.
+    pub fn get(&self, key: &str) -> Option<&Json>
+        ensures { option_map (λ found. value_of found.now) result ≡ entry_of key.now (entries_from self.now) }
+    {
+        match self.place_of(key) {
+            Ok(at) => Some(self.value_at(at)),
+            Err(_) => None,
+        }
+    }
+
+    /// The keys and their values, ascending by the keys' bytes.
+    pub fn entries(&self) -> &[(Str, Json)]
+        ensures { pairs_of result.now ≡ self.now }
+    {
+        &self.entries
+    }
+
+    /// How many keys there are.
     pub fn len(&self) -> usize
         ensures len { result ≡ length self.now }
         ensures ascending { IsAscending (keys_of self.now) }

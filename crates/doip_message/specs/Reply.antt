@@ -23,13 +23,14 @@ status_text Declined = codes "0.DOIP/Status.200"
 status_text Other500 = codes "0.DOIP/Status.500"
 status_text (Foreign s) = s
 
--- a response as plain data: the client's mark, the status, the entries of the attributes, and the output
+-- a response as plain data: the request id, the status, the entries of the attributes, and the output
 pub record Replied : Type 0 where
   pub request_id : Option (List ℕ)
   pub status : Status
   pub attributes : List (List ℕ × Value)
   pub output : Content
 
+-- what a response replies
 abbrev pub replied_of : Response → Replied
 replied_of p = record { request_id = p.request_id; status = p.status; attributes = p.attributes; output = content_of p.output }
 
@@ -49,17 +50,21 @@ output_value (one_value v) = Some v
 output_value no_content = None
 output_value (parts ss) = None
 
--- the segments behind the first
+-- the segments after the first
 abbrev pub output_parts : Content → List Segment
 output_parts (parts ss) = ss
 output_parts no_content = []
 output_parts (one_value v) = []
 
--- the entries of the first segment, ascending
+-- the entries of a first segment, ascending: attributes, output and request id where they are there, and the status
+abbrev pub entries_with : Option Value → Option Value → Option (List ℕ) → Status → List (List ℕ × Value)
+entries_with attributes output request_id status =
+    entry_for (codes "attributes") attributes ++ entry_for (codes "output") output
+    ++ entry_for (codes "requestId") (option_map text request_id) ++ (codes "status", text (status_text status)) ∷ []
+
+-- those of a response
 abbrev pub first_entries : Replied → List (List ℕ × Value)
-first_entries p =
-    entry_for (codes "attributes") (attributes_value p.attributes) ++ entry_for (codes "output") (output_value p.output)
-    ++ entry_for (codes "requestId") (option_map text p.request_id) ++ (codes "status", text (status_text p.status)) ∷ []
+first_entries p = entries_with (attributes_value p.attributes) (output_value p.output) p.request_id p.status
 
 -- the message of a response
 abbrev pub response_segments : Replied → List Segment
@@ -71,8 +76,13 @@ reply_text p = canonical (response_segments p)
 
 -- a refusal: its status and its one attribute
 abbrev pub refusal : Option (List ℕ) → Status → List ℕ → Replied
-refusal mark status message = record { request_id = mark; status = status; attributes = (codes "message", text message) ∷ []; output = no_content }
+refusal request_id status message = record {
+  request_id = request_id;
+  status = status;
+  attributes = (codes "message", text message) ∷ [];
+  output = no_content;
+}
 
--- segments that can be encoded behind one more
+-- segments that can be encoded after one more
 abbrev pub CanFollow : List Segment → Type 0
 CanFollow segments = AllByRecursion IsEncodable segments × (length segments ≤ 2047)

@@ -4,8 +4,8 @@ ghost use Rattle.doip_json.specs.Value.{table, entries_from};
 ghost use Rattle.doip_json.specs.Meaning.{value_of};
 ghost use Rattle.doip_json.specs.Look.{entry_of};
 ghost use Rattle.doip_message.specs.Asked.{content_of};
-ghost use Rattle.doip_message.specs.Reading.{unless_null, property, optional_text, required_text, attributes_in, authentication_in, input_in, first_table, further, request, Reads, IsRequest};
-ghost use Rattle.doip_message.specs.Fields.{fields_in, view_of, asking_view, properties_given};
+ghost use Rattle.doip_message.specs.Reading.{unless_null, optional_text, required_text, attributes_in, authentication_in, input_in, property_values, properties_in, first_object, further, request, Reads, IsRequest};
+ghost use Rattle.doip_message.specs.Fields.{view_of, asking_view};
 
 use crate::request::{Body, FieldName, Request, RequestFault, Why};
 use doip_json::{Json, JsonFault, JsonMap, Str, read};
@@ -26,7 +26,7 @@ struct Fields {
     input: Option<Json>,
 }
 
-// The properties behind the client's mark, as they are asked.
+// The properties after the request id, as they are asked.
 #[derive(Drop)]
 struct Asking {
     target_id: Str,
@@ -36,20 +36,30 @@ struct Asking {
     input: Body,
 }
 
-/// The request that a message spells, or its first fault in this order: no segment; a first segment of bytes; one that
-/// is not JSON, nested deeper than 64 or with a number that isn't whole; one that is no table; a fault of `requestId`,
-/// `targetId`, `operationId` or `attributes`, where the value has another kind or a required one is absent; an `input`
-/// beside further segments. `null` for an optional property counts as absent, as does an empty table of
-/// `authentication`; other properties are not read. A fault of a property and two inputs carry the client's mark where
-/// that is a text. `Memory` comes for want of memory alone.
+/// The request that a message spells, or its first fault.
 ///
-/// It takes time in the length of the message: the values are those that the reader of JSON made, and the contents of
-/// further segments are copied once.
+/// # Errors
+/// The first of these that holds, in this order; the last two carry the request id where that property is a string.
+///
+/// | fault | comes |
+/// |---|---|
+/// | `NoSegment` | the message has no segment |
+/// | `FirstIsBytes` | its first segment is bytes |
+/// | `Json` | its first segment is not JSON, nests deeper than 64, or has a number that isn't whole |
+/// | `NotTable` | its first segment is no JSON object |
+/// | `Field` | `requestId`, `targetId`, `operationId` or `attributes`, in this order, has another kind of value, or a required one is absent |
+/// | `TwoInputs` | there is an `input` and a further segment |
+///
+/// `null` for an optional property counts as absent, as does an empty JSON object of `authentication`; other properties
+/// are not read. `Memory` comes only when an allocation was refused.
+///
+/// It takes time linear in the length of the message: the values are those that the reader of JSON made, and the contents
+/// of further segments are copied once.
 pub fn request_of(alloc: Global, message: &Message) -> Result<Request, RequestFault>
     ensures { IsRequest result (request message.now.segments) }
 {
-    let table = match table_of(alloc, message) {
-        Ok(table) => table,
+    let object = match first_object_of(alloc, message) {
+        Ok(object) => object,
         Err(why) => {
             return Err(RequestFault {
                 request_id: None,
@@ -57,8 +67,8 @@ pub fn request_of(alloc: Global, message: &Message) -> Result<Request, RequestFa
             });
         }
     };
-    let mut fields = fields_of(table);
-    let request_id = match text_of(fields.request_id.take(), FieldName::RequestId) {
+    let mut fields = fields_of(object);
+    let request_id = match optional_text_of(fields.request_id.take(), FieldName::RequestId) {
         Ok(request_id) => request_id,
         Err(why) => {
             return Err(RequestFault {
@@ -80,9 +90,9 @@ pub fn request_of(alloc: Global, message: &Message) -> Result<Request, RequestFa
     }
 }
 
-// The table that the first segment is.
-fn table_of(alloc: Global, message: &Message) -> Result<JsonMap, Why>
-    ensures { Reads (λ m. table (entries_from m)) result (first_table message.now.segments) }
+// The JSON object that the first segment is.
+fn first_object_of(alloc: Global, message: &Message) -> Result<JsonMap, Why>
+    ensures { Reads (λ m. table (entries_from m)) result (first_object message.now.segments) }
 {
     if message.count() == 0 {
         return Err(Why::NoSegment);
@@ -91,20 +101,20 @@ fn table_of(alloc: Global, message: &Message) -> Result<JsonMap, Why>
         return Err(Why::FirstIsBytes);
     }
     match read(alloc, message.bytes(0), DEPTH) {
-        Ok(Json::Table(table)) => Ok(table),
+        Ok(Json::Table(object)) => Ok(object),
         Ok(_) => Err(Why::NotTable),
         Err(JsonFault::Memory) => Err(Why::Memory),
         Err(fault) => Err(Why::Json(fault)),
     }
 }
 
-// The value of a property, which is taken out of the table. `null` counts as absent.
-fn present(table: &mut JsonMap, key: &str) -> Option<Json>
-    ensures value { option_map value_of result ≡ unless_null (entry_of key.now (entries_from table.old)) }
+// The value of a property, which is taken out of the object. `null` counts as absent.
+fn take_property(object: &mut JsonMap, key: &str) -> Option<Json>
+    ensures value { option_map value_of result ≡ unless_null (entry_of key.now (entries_from object.old)) }
     ensures others { (other : List ℕ) → other ≢ key.now →
-        entry_of other (entries_from table.new) ≡ entry_of other (entries_from table.old) }
+        entry_of other (entries_from object.new) ≡ entry_of other (entries_from object.old) }
 {
-    match table.take(key) {
+    match object.take(key) {
         None | Some(Json::Null) => None,
         Some(value) => Some(value),
     }
@@ -112,14 +122,14 @@ fn present(table: &mut JsonMap, key: &str) -> Option<Json>
 
 // The properties that are read.
 fn fields_of(mut entries: JsonMap) -> Fields
-    ensures { view_of result ≡ fields_in (table (entries_from entries)) }
+    ensures { view_of result ≡ property_values (table (entries_from entries)) }
 {
-    let request_id = present(&mut entries, "requestId");
-    let target_id = present(&mut entries, "targetId");
-    let operation_id = present(&mut entries, "operationId");
-    let attributes = present(&mut entries, "attributes");
-    let authentication = present(&mut entries, "authentication");
-    let input = present(&mut entries, "input");
+    let request_id = take_property(&mut entries, "requestId");
+    let target_id = take_property(&mut entries, "targetId");
+    let operation_id = take_property(&mut entries, "operationId");
+    let attributes = take_property(&mut entries, "attributes");
+    let authentication = take_property(&mut entries, "authentication");
+    let input = take_property(&mut entries, "input");
     Fields {
         request_id,
         target_id,
@@ -130,13 +140,13 @@ fn fields_of(mut entries: JsonMap) -> Fields
     }
 }
 
-// What the properties behind the client's mark ask, the first fault first.
-#[tactic(auto, unfolding(crate::specs::Fields::properties_given))]
+// What the properties after the request id ask, the first fault first.
+#[tactic(auto, unfolding(crate::specs::Reading::properties_in))]
 fn asking_of(alloc: Global, fields: Fields, message: &Message) -> Result<Asking, Why>
-    ensures { Reads asking_view result (properties_given (view_of fields) (further message.now.segments)) }
+    ensures { Reads asking_view result (properties_in (view_of fields) (further message.now.segments)) }
 {
-    let target_id = needed_text_of(fields.target_id, FieldName::TargetId)?;
-    let operation_id = needed_text_of(fields.operation_id, FieldName::OperationId)?;
+    let target_id = required_text_of(fields.target_id, FieldName::TargetId)?;
+    let operation_id = required_text_of(fields.operation_id, FieldName::OperationId)?;
     let attributes = attributes_of(alloc, fields.attributes)?;
     let authentication = authentication_of(fields.authentication);
     let input = input_of(alloc, fields.input, message)?;
@@ -150,7 +160,7 @@ fn asking_of(alloc: Global, fields: Fields, message: &Message) -> Result<Asking,
 }
 
 // The text of an optional property.
-fn text_of(property: Option<Json>, name: FieldName) -> Result<Option<Str>, Why>
+fn optional_text_of(property: Option<Json>, name: FieldName) -> Result<Option<Str>, Why>
     ensures { Reads (λ t. t) result (optional_text name (option_map value_of property)) }
 {
     match property {
@@ -161,7 +171,7 @@ fn text_of(property: Option<Json>, name: FieldName) -> Result<Option<Str>, Why>
 }
 
 // The text of a property that has to be there.
-fn needed_text_of(property: Option<Json>, name: FieldName) -> Result<Str, Why>
+fn required_text_of(property: Option<Json>, name: FieldName) -> Result<Str, Why>
     ensures { Reads (λ t. t) result (required_text name (option_map value_of property)) }
 {
     match property {
@@ -170,7 +180,7 @@ fn needed_text_of(property: Option<Json>, name: FieldName) -> Result<Str, Why>
     }
 }
 
-// The table of arguments, empty where there is none.
+// The arguments, empty where there are none.
 fn attributes_of(alloc: Global, property: Option<Json>) -> Result<JsonMap, Why>
     ensures { Reads entries_from result (attributes_in (option_map value_of property)) }
 {
@@ -183,7 +193,7 @@ fn attributes_of(alloc: Global, property: Option<Json>) -> Result<JsonMap, Why>
     }
 }
 
-// Who asks. An empty table counts as absent.
+// Who asks. An empty JSON object counts as absent.
 fn authentication_of(property: Option<Json>) -> Option<Json>
     ensures { option_map value_of result ≡ authentication_in (option_map value_of property) }
 {

@@ -2,7 +2,7 @@
 use doip_json::{Json, JsonFault, JsonMap, Str};
 use doip_segment::Message;
 
-/// What a request brings, or a response gives, beside its properties.
+/// What a request brings, or a response returns, beside its properties.
 #[derive(Debug, Drop)]
 pub enum Body {
     /// Nothing.
@@ -16,7 +16,7 @@ pub enum Body {
 /// What a client asks.
 #[derive(Debug, Drop)]
 pub struct Request {
-    /// The client's mark, which the response repeats.
+    /// The client's id of this request, which the response repeats.
     pub request_id: Option<Str>,
     /// The identifier of the service or of the object that is asked.
     pub target_id: Str,
@@ -24,7 +24,7 @@ pub struct Request {
     pub operation_id: Str,
     /// The operation's arguments; empty where the request has none.
     pub attributes: JsonMap,
-    /// Who asks, absent where the request has none or an empty table.
+    /// Who asks, absent where the request has none or an empty JSON object.
     pub authentication: Option<Json>,
     /// The input.
     pub input: Body,
@@ -49,7 +49,7 @@ pub enum Why {
     FirstIsBytes,
     /// Its first segment isn't JSON, nests deeper than 64, or has a number that isn't whole.
     Json(JsonFault),
-    /// Its first segment is no table.
+    /// Its first segment is no JSON object.
     NotTable,
     /// A property is absent, or has another kind of value.
     Field { name: FieldName },
@@ -59,10 +59,10 @@ pub enum Why {
     Memory,
 }
 
-/// A message that is no request, with the client's mark where the fault leaves it readable.
+/// A message that is no request, with its request id where the fault leaves it readable.
 #[derive(Debug, Drop)]
 pub struct RequestFault {
-    /// Present for faults of a property and for two inputs, where the mark is a text.
+    /// Present for faults of a property and for two inputs, where the property is a string.
     pub request_id: Option<Str>,
     /// The first fault.
     pub why: Why,

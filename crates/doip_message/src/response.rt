@@ -48,10 +48,10 @@ impl Status {
     }
 }
 
-/// What a service answers.
+/// What a service replies.
 #[derive(Debug, Drop)]
 pub struct Response {
-    /// The client's mark, where the request had one.
+    /// The request id, where the request had one.
     pub request_id: Option<Str>,
     /// How it ended.
     pub status: Status,

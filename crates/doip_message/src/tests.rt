@@ -5,7 +5,7 @@ use doip_segment::{Kind, Message};
 use std::alloc::{AllocError, Global};
 use std::test::Fail;
 
-// A message of this first segment, with one of the byte `b` behind it where asked.
+// A message of this first segment, with one of the byte `b` after it where asked.
 fn message_of(alloc: Global, first: &[u8], has_more: bool) -> Result<Message, AllocError> {
     let mut message = Message::empty(alloc);
     message.push(Kind::Json, first)?;
@@ -24,7 +24,7 @@ fn text_or_dash(alloc: Global, text: &Option<Str>) -> Result<Bytes, AllocError> 
 
 // The properties of a request in the order of its type, `-` for what is absent and the number of its parts.
 fn shown(alloc: Global, request: Request) -> Result<Vec<u8>, AllocError> {
-    let mark = text_or_dash(alloc, &request.request_id)?;
+    let request_id = text_or_dash(alloc, &request.request_id)?;
     let target = Bytes::of(alloc, request.target_id.get().as_bytes())?;
     let operation = Bytes::of(alloc, request.operation_id.get().as_bytes())?;
     let attributes = text(alloc, &Json::Table(request.attributes))?;
@@ -40,7 +40,7 @@ fn shown(alloc: Global, request: Request) -> Result<Vec<u8>, AllocError> {
         }
     };
     let mut out = Vec::new(alloc);
-    for piece in [&mark, &target, &operation, &attributes, &who, &input] {
+    for piece in [&request_id, &target, &operation, &attributes, &who, &input] {
         out.extend_from_slice(piece.get())?;
         out.push(b';')?;
     }
@@ -50,7 +50,7 @@ fn shown(alloc: Global, request: Request) -> Result<Vec<u8>, AllocError> {
 #[test]
 fn each_first_segment_gives_its_request(rt: HostRuntime) -> Result<(), Fail> {
     let alloc = rt.alloc();
-    let table: [(&[u8], bool, &[u8]); 10] = [
+    let rows: [(&[u8], bool, &[u8]); 10] = [
         (
             b"{\"targetId\":\"t\",\"operationId\":\"o\"}",
             false,
@@ -83,7 +83,7 @@ fn each_first_segment_gives_its_request(rt: HostRuntime) -> Result<(), Fail> {
             true,
             b"-;t;o;{};-;1 more;",
         ),
-        // So does an empty table that authenticates, and no other value of it.
+        // So does an empty JSON object of credentials, and no other value of them.
         (
             b"{\"targetId\":\"t\",\"operationId\":\"o\",\"authentication\":{}}",
             false,
@@ -105,7 +105,7 @@ fn each_first_segment_gives_its_request(rt: HostRuntime) -> Result<(), Fail> {
             b";;\xc3\xa9;{};-;-;",
         ),
     ];
-    for (first, has_more, want) in table {
+    for (first, has_more, want) in rows {
         let got = match request_of(alloc, &message_of(alloc, first, has_more)?) {
             Ok(request) => shown(alloc, request)?,
             Err(_) => return Err(Fail::from("no request")),
@@ -120,9 +120,9 @@ fn field(name: FieldName) -> Why {
 }
 
 #[test]
-fn the_first_fault_is_told_with_the_mark(rt: HostRuntime) -> Result<(), Fail> {
+fn the_first_fault_is_reported_with_the_request_id(rt: HostRuntime) -> Result<(), Fail> {
     let alloc = rt.alloc();
-    let table: [(&[u8], bool, Why, &[u8]); 25] = [
+    let rows: [(&[u8], bool, Why, &[u8]); 25] = [
         (b"x", true, Why::Json(JsonFault::NotJson), b"-"),
         (b"[1.5]", false, Why::Json(JsonFault::NotWhole), b"-"),
         (
@@ -133,7 +133,7 @@ fn the_first_fault_is_told_with_the_mark(rt: HostRuntime) -> Result<(), Fail> {
         ),
         (b"[]", false, Why::NotTable, b"-"),
         (b"null", true, Why::NotTable, b"-"),
-        // The mark, alone and with each fault behind it.
+        // The request id, alone and with each later fault.
         (
             b"{\"requestId\":1,\"targetId\":\"t\",\"operationId\":\"o\"}",
             false,
@@ -259,13 +259,13 @@ fn the_first_fault_is_told_with_the_mark(rt: HostRuntime) -> Result<(), Fail> {
             b"-",
         ),
     ];
-    for (first, has_more, why, mark) in table {
+    for (first, has_more, why, request_id) in rows {
         match request_of(alloc, &message_of(alloc, first, has_more)?) {
             Ok(_) => return Err(Fail::from("no fault")),
             Err(fault) => {
                 assert_eq!(rt; fault.why, why, "{first:?}");
                 let told = text_or_dash(alloc, &fault.request_id)?;
-                assert_eq!(rt; told.get(), mark, "{first:?}");
+                assert_eq!(rt; told.get(), request_id, "{first:?}");
             }
         }
     }
@@ -337,13 +337,13 @@ fn a_first_segment_nests_at_most_64_deep(rt: HostRuntime) -> Result<(), Fail> {
 // A response with this message in its attributes, where there is one.
 fn response(
     alloc: Global,
-    mark: Option<&str>,
+    request_id: Option<&str>,
     status: Status,
     message: Option<&str>,
     output: Body,
 ) -> Result<Response, AllocError> {
-    let request_id = match mark {
-        Some(mark) => Some(Str::of(alloc, mark)?),
+    let request_id = match request_id {
+        Some(id) => Some(Str::of(alloc, id)?),
         None => None,
     };
     let mut attributes = JsonMap::empty(alloc);
@@ -362,7 +362,7 @@ fn response(
 #[test]
 fn each_response_has_its_first_segment(rt: HostRuntime) -> Result<(), Fail> {
     let alloc = rt.alloc();
-    let table: [(Option<&str>, Option<&str>, Option<&[u8]>, &[u8]); 6] = [
+    let rows: [(Option<&str>, Option<&str>, Option<&[u8]>, &[u8]); 6] = [
         (None, None, None, b"{\"status\":\"0.DOIP/Status.001\"}"),
         (
             Some("a\""),
@@ -395,7 +395,7 @@ fn each_response_has_its_first_segment(rt: HostRuntime) -> Result<(), Fail> {
             b"{\"attributes\":{\"message\":\"m\"},\"output\":0,\"requestId\":\"\",\"status\":\"0.DOIP/Status.001\"}",
         ),
     ];
-    for (mark, message, output, want) in table {
+    for (request_id, message, output, want) in rows {
         let output = match output {
             Some(bytes) => match read(alloc, bytes, 2) {
                 Ok(value) => Body::Value(value),
@@ -403,7 +403,7 @@ fn each_response_has_its_first_segment(rt: HostRuntime) -> Result<(), Fail> {
             },
             None => Body::Nothing,
         };
-        let answered = response(alloc, mark, Status::Done, message, output)?;
+        let answered = response(alloc, request_id, Status::Done, message, output)?;
         let made = response_message(alloc, &answered)?;
         assert_eq!(rt; made.count(), 1);
         assert!(rt; matches!(made.kind(0), Kind::Json));
@@ -415,7 +415,7 @@ fn each_response_has_its_first_segment(rt: HostRuntime) -> Result<(), Fail> {
 }
 
 #[test]
-fn parts_stand_behind_the_first_segment(rt: HostRuntime) -> Result<(), Fail> {
+fn parts_follow_the_first_segment(rt: HostRuntime) -> Result<(), Fail> {
     let alloc = rt.alloc();
     let mut parts = Message::empty(alloc);
     parts.push(Kind::Bytes, b"")?;
@@ -438,7 +438,7 @@ fn parts_stand_behind_the_first_segment(rt: HostRuntime) -> Result<(), Fail> {
 
 #[test]
 fn each_status_has_its_identifier(rt: HostRuntime) -> Result<(), Fail> {
-    let table = [
+    let rows = [
         (Status::Done, "0.DOIP/Status.001"),
         (Status::Invalid, "0.DOIP/Status.101"),
         (Status::NotAuthenticated, "0.DOIP/Status.102"),
@@ -449,7 +449,7 @@ fn each_status_has_its_identifier(rt: HostRuntime) -> Result<(), Fail> {
         (Status::Other500, "0.DOIP/Status.500"),
         (Status::Foreign(Str::of(rt.alloc(), "s")?), "s"),
     ];
-    for (status, want) in &table {
+    for (status, want) in &rows {
         assert_eq!(rt; status.text(), *want);
     }
     Ok(())
@@ -458,13 +458,13 @@ fn each_status_has_its_identifier(rt: HostRuntime) -> Result<(), Fail> {
 #[test]
 fn each_fixed_text_is_what_its_refusal_is_written_as(rt: HostRuntime) -> Result<(), Fail> {
     let alloc = rt.alloc();
-    let table = [
+    let rows = [
         (Status::Other500, "want of memory", MEMORY_TEXT),
         (Status::Other500, "disk fault", DISK_TEXT),
         (Status::Other500, "store closed", CLOSED_TEXT),
         (Status::Invalid, "framing fault", FRAMING_TEXT),
     ];
-    for (status, message, want) in table {
+    for (status, message, want) in rows {
         let refused = response(alloc, None, status, Some(message), Body::Nothing)?;
         let made = response_message(alloc, &refused)?;
         assert_eq!(rt; made.count(), 1);

@@ -1,13 +1,13 @@
--- A read copies the next n bytes of what is left to the front of a buffer.
+-- A read copies the next n bytes of what is left into the first ones of a buffer.
 use Rattle.std.proofs.Common.{◌≡◌, ℕ, ◌+◌, ◌-◌, ◌≤◌, List, ◌++◌, length, take, drop, sym, ◌∙◌, ap, arith}
 use Rattle.std.proofs.Math.Seq.{take-add, take-append_seam}
 use Rattle.std.proofs.lemmas.List.{take-append-drop, drop-drop, length-take-le}
 
--- what stands at the front of the buffer
+-- the first bytes of the buffer
 front_is : (n : ℕ) (x rest : List ℕ) → length x ≡ n → take n (x ++ rest) ≡ x
 front_is n x rest e = ap (λ (k : ℕ). take k (x ++ rest)) (sym e) ∙ take-append_seam x rest
 
--- x is the next n bytes behind the first g
+-- x is the next n bytes after the first g
 pub record IsNext (g n : ℕ) (bytes x : List ℕ) : Type 0 where
   pub is : x ≡ take n (drop g bytes)
   pub long : length x ≡ n

@@ -1,11 +1,11 @@
--- Why a call over the outside may answer a fault: its count of faults rose. This project's own.
+-- Why a call over the outside may return a fault: its count of faults rose. This project's own.
 use Rattle.std.specs.Prelude.{◌≡◌, ◌≤◌, ◌+◌, ◌-◌, ◌^◌, ℕ, min, OnErr, Result}
 
--- the count rose, or stands at its last value
+-- the count rose, or is at its last value
 abbrev pub Rose : ℕ → ℕ → Type 0
 Rose before now = min (before + 1) (2 ^ 64 - 1) ≤ now
 
--- the count rose by one, or stands at its last value
+-- the count rose by one, or is at its last value
 abbrev pub Counts : ℕ → ℕ → Type 0
 Counts before now = now ≡ min (before + 1) (2 ^ 64 - 1)
 

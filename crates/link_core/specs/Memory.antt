@@ -1,10 +1,10 @@
 -- What the forms in memory hold, and when their calls fail. This project's own.
-use Rattle.std.specs.Prelude.{◌≡◌, ◌<◌, ◌-◌, ◌^◌, ◌⊎◌, ℕ, Bool, List, [], map, Option, Some, min, max, length, take, drop, vec_len, Contains, slice_index_or}
+use Rattle.std.specs.Prelude.{◌≡◌, ◌<◌, ◌-◌, ◌^◌, ◌⊎◌, ℕ, Bool, List, [], ◌∷◌, map, Option, None, Some, min, max, length, take, drop, vec_len, Contains, slice_index_or}
 use Rattle.link_core.specs.declared.memory_link.MemoryLink.{MemoryLink}
 use Rattle.link_core.specs.declared.memory_sink.MemorySink.{MemorySink}
 use Rattle.link_core.specs.declared.memory_host.MemoryHost.{MemoryHost}
 
--- What a link or a sink in memory was told to do, and how far it is: how many bytes each read gives and each write takes
+-- What a link or a sink in memory is to do, and how far it is: how many bytes each read gives and each write takes
 -- at most, the numbers of the calls that fail, and how often it was called.
 pub record Script : Type 0 where
   pub read_lengths : List ℕ
@@ -18,6 +18,10 @@ pub record Script : Type 0 where
 abbrev pub script : List ℕ → List ℕ → List ℕ → Script
 script read_lengths write_lengths failing =
     record { read_lengths = read_lengths; write_lengths = write_lengths; failing = failing; calls = 0; reads = 0; writes = 0 }
+
+-- the same script before its first call
+abbrev pub restarted : Script → Script
+restarted s = script s.read_lengths s.write_lengths s.failing
 
 -- the next call is on the list of calls to fail
 abbrev pub FailsNext : Script → Type 0
@@ -39,7 +43,7 @@ given_next s room = min room (max (moved s.read_lengths s.reads room) 1)
 abbrev pub TakesNothing : Script → List ℕ → Type 0
 TakesNothing s piece = (0 < length piece) × (taken_next s piece ≡ 0)
 
--- a write fails at a listed call and where it takes nothing; else only for want of memory, which is counted
+-- a write fails at a listed call and where it takes nothing; else only when out of memory, which is counted
 abbrev pub IsToFail : Script → List ℕ → Type 0
 IsToFail s piece = FailsNext s ⊎ TakesNothing s piece
 
@@ -98,6 +102,11 @@ links_held host = host.consoles.items
 abbrev pub consoles_of : MemoryHost → Option (List (List ℕ))
 consoles_of host = Some (map console_bytes (links_held host))
 
+-- the script of the first of them, before its first call
+abbrev pub first_script : List MemoryLink → Option Script
+first_script [] = None
+first_script (link ∷ links) = Some (restarted (script_of link))
+
 -- how often it was called, how many links it has handed out, how often a call failed, and the calls that are to fail
 abbrev pub console_calls_of : MemoryHost → ℕ
 console_calls_of host = host.console_calls
@@ -118,6 +127,6 @@ pub record SameCounts (old new : MemoryHost) : Type 0 where
   pub faults : host_faults new ≡ host_faults old
   pub failing : host_failing new ≡ host_failing old
 
--- a host hands out no link at a listed call, where it has none, and where its count of links stands at its last value
+-- a host hands out no link at a listed call, where it has none, and where its count of links is at its last value
 abbrev pub HostFails : MemoryHost → Type 0
 HostFails host = Contains (host_failing host) (console_calls_of host) ⊎ ((links_held host ≡ []) ⊎ (links_of host ≡ 2 ^ 64 - 1))

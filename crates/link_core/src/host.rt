@@ -34,8 +34,8 @@ pub trait Host {
     /// Hands out standard input and output as one link, of which nothing was read and to which nothing was written.
     ///
     /// # Errors
-    /// `Failed` where the host's count of faults rose, and always where its count of links stands at 2^64 - 1;
-    /// `Memory` for want of memory. The host then holds what it held.
+    /// `Failed` if the host's count of faults rose, and always if its count of links is 2^64 - 1; `Memory` if an
+    /// allocation was refused. The host then holds what it held.
     fn console(&mut self) -> Result<Self::Link, HostFault>
         ensures handed { HandsOut Self.Link.left Self.Link.taken Self.Link.written (consoles self.old) (consoles self.new) result }
         ensures fresh { IfOk result (λ link. IsFresh Self.Link.faults Self.Link.closed Self.Link.taken Self.Link.written link) }

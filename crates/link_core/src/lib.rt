@@ -3,7 +3,7 @@
 //! A contract sees of a `Link` the bytes that reads have given, the bytes that are left and the bytes that were
 //! written, each where the link tells; whether it is closed; its count of faults, which never falls; and its number
 //! of reads, which falls with each read that gives bytes. A `Host` has counts of its calls and of the links that it
-//! has handed out. `Failed` is answered only where the count of faults rose in that call, or stands at its last value:
+//! has handed out. `Failed` is returned only if the count of faults rose in that call, or is at its last value:
 //! code that is generic over the trait can't raise that count by itself.
 //!
 //! `MemoryLink`, `MemorySink` and `MemoryHost` tell all that they hold, and are what tests run on. Read `Link` first.

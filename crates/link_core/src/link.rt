@@ -3,7 +3,7 @@ ghost use Rattle.std.specs.Prelude.{◌≡◌, ◌≤◌, ◌^◌, ℕ, List, Op
 ghost use Rattle.std.specs.Io.{ReadsAtMost};
 ghost use Rattle.std.specs.Io.KnownBytes.{Keeps, ReadConsumes, WriteAppends};
 ghost use Rattle.link_core.specs.Causes.{HasCause};
-ghost use Rattle.link_core.specs.Link.{ReadGives, Takes, AppendsFront, Spends};
+ghost use Rattle.link_core.specs.Link.{ReadGives, Takes, AppendsPrefix, Spends};
 
 /// The outside did not do what was asked of it. A count of faults has risen.
 #[derive(Clone, Copy, Debug, PartialEq, Eq)]
@@ -32,10 +32,10 @@ pub trait Link {
     /// How many reads can still give bytes, at most.
     ghost reads: { Self → ℕ };
 
-    /// Reads into the front of the buffer, and answers how many bytes it read: 0, with room, only at the end.
+    /// Reads into the first bytes of the buffer, and returns how many it read: 0, with room, only at the end.
     ///
     /// # Errors
-    /// `Failed` where the count of faults rose. Nothing was taken from the link then.
+    /// `Failed` only if the count of faults rose. Nothing was taken from the link then.
     fn read(&mut self, into: &mut [u8]) -> Result<usize, Failed>
         ensures bound { ReadsAtMost result into.new }
         ensures taken { ReadGives (taken self.old) (taken self.new) result into.new }
@@ -47,13 +47,13 @@ pub trait Link {
         ensures written { Keeps (written self.old) (written self.new) }
         ensures closed { closed self.new ≡ closed self.old };
 
-    /// Writes a front of the piece, and answers how many bytes it wrote: of a piece with bytes at least one.
+    /// Writes a prefix of the piece, and returns how many bytes it wrote: of a piece with bytes at least one.
     ///
     /// # Errors
-    /// `Failed` where the count of faults rose. At most a front of the piece was written then.
+    /// `Failed` only if the count of faults rose. At most a prefix of the piece was written then.
     fn write(&mut self, piece: &[u8]) -> Result<usize, Failed>
         ensures bound { Takes piece.now result }
-        ensures written { AppendsFront (written self.old) (written self.new) piece.now result }
+        ensures written { AppendsPrefix (written self.old) (written self.new) piece.now result }
         ensures cause { HasCause (faults self.old) (faults self.new) result }
 
         ensures taken { Keeps (taken self.old) (taken self.new) }

@@ -1,5 +1,5 @@
 //! A host over links in memory.
-ghost use Rattle.std.specs.Prelude.{◌≡◌, ◌-◌, ◌≤◌, ◌^◌, ◌↔◌, ◌++◌, [], ◌∷◌, IfOk, OnOk, OnErr, IsErr, IsErrOf};
+ghost use Rattle.std.specs.Prelude.{◌≡◌, ◌-◌, ◌≤◌, ◌^◌, ◌↔◌, ◌++◌, [], ◌∷◌, Some, IfOk, OnOk, OnErr, IsErr, IsErrOf};
 ghost use Rattle.link_core.specs.Causes.{Rose, Counts};
 ghost use Rattle.link_core.specs.Host.{CountsOk, HandsOut, IsFresh};
 
@@ -10,8 +10,8 @@ use std::collections::VecDeque;
 
 /// A host that hands out the links that it was given, in order.
 ///
-/// It tells what they hold. `console` answers `Failed` exactly where the number of its call is on the list of calls to
-/// fail, where no link is left to hand out, and where the count of links stands at its last value.
+/// It tells what they hold. `console` returns `Failed` exactly when the number of its call is on the list of calls to
+/// fail, when no link is left to hand out, and when the count of links is at its last value.
 #[derive(Drop)]
 pub struct MemoryHost {
     consoles: VecDeque<MemoryLink>,
@@ -66,7 +66,7 @@ impl MemoryHost {
 impl Host for MemoryHost {
     type Link = MemoryLink;
 
-    ghost use Rattle.link_core.specs.Memory.{taken_of, left_of, written_of, is_closed, faults_of, consoles_of, console_calls_of, links_of, host_faults, host_failing, HostFails};
+    ghost use Rattle.link_core.specs.Memory.{taken_of, left_of, written_of, is_closed, faults_of, consoles_of, console_calls_of, links_of, host_faults, host_failing, links_held, script_of, first_script, HostFails};
 
     ghost consoles = { consoles_of };
 
@@ -86,6 +86,8 @@ impl Host for MemoryHost {
         ensures cause { IsErrOf result HostFault.Failed → Rose (host_faults self.old) (host_faults self.new) }
 
         ensures listed { IsErr result ↔ HostFails self.old }
+        // The link does what it was made to do, from its first call on.
+        ensures script { IfOk result (λ link. first_script (links_held self.old) ≡ Some (script_of link)) }
         ensures failing { host_failing self.new ≡ host_failing self.old }
     {
         let listed = is_listed(&self.failing, self.console_calls);

@@ -3,7 +3,7 @@ ghost use Rattle.std.specs.Prelude.{◌≡◌, ◌≤◌, ◌⊎◌, ◌^◌, �
 ghost use Rattle.std.specs.Io.{ReadsAtMost};
 ghost use Rattle.std.specs.Io.KnownBytes.{Keeps, ReadConsumes};
 ghost use Rattle.link_core.specs.Causes.{HasCause, Rose};
-ghost use Rattle.link_core.specs.Link.{ReadGives, Takes, AppendsFront, Spends};
+ghost use Rattle.link_core.specs.Link.{ReadGives, Takes, AppendsPrefix, Spends};
 
 use crate::script::{is_listed, listed_length};
 use crate::{Failed, Link};
@@ -11,7 +11,7 @@ use std::alloc::{AllocError, Global};
 
 /// A link whose reads give the bytes that it was made with and whose writes go into a record.
 ///
-/// It tells all that it holds. Its calls answer `Failed` exactly where their number is on its list of calls to fail,
+/// It tells all that it holds. Its calls return `Failed` exactly when their number is on its list of calls to fail,
 /// where a listed write of a piece with bytes takes nothing, and where there is no memory for the record, which
 /// `starved` counts.
 #[derive(Drop)]
@@ -33,7 +33,7 @@ pub struct MemoryLink {
 }
 
 impl MemoryLink {
-    ghost use Rattle.link_core.specs.Memory.{console_bytes, taken_of, left_of, written_of, given_of, is_closed, faults_of, script_of, script};
+    ghost use Rattle.link_core.specs.Memory.{console_bytes, taken_of, left_of, written_of, given_of, is_closed, faults_of, script_of, script, restarted};
 
     /// A link with these bytes to read. Its n-th read gives at most the n-th of the read lengths, and a 0 there counts
     /// as 1; its n-th write takes at most the n-th of the write lengths; past a list's end all. The calls of the listed
@@ -80,6 +80,7 @@ impl MemoryLink {
     pub(crate) fn afresh(mut self) -> Self
         ensures bytes { (console_bytes result ≡ console_bytes self) × (left_of result ≡ Some (console_bytes self)) × (taken_of result ≡ Some []) }
         ensures start { (written_of result ≡ Some []) × (is_closed result ≡ false) × (faults_of result ≡ 0) }
+        ensures script { script_of result ≡ restarted (script_of self) }
     {
         self.given = 0;
         self.written.clear();
@@ -167,7 +168,7 @@ impl Link for MemoryLink {
 
     fn write(&mut self, piece: &[u8]) -> Result<usize, Failed>
         ensures bound { Takes piece.now result }
-        ensures written { AppendsFront (written_of self.old) (written_of self.new) piece.now result }
+        ensures written { AppendsPrefix (written_of self.old) (written_of self.new) piece.now result }
         ensures cause { HasCause (faults_of self.old) (faults_of self.new) result }
 
         ensures taken { Keeps (taken_of self.old) (taken_of self.new) }

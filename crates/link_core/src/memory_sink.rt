@@ -1,7 +1,7 @@
 //! A sink into memory.
 ghost use Rattle.std.specs.Prelude.{◌≡◌, ◌⊎◌, [], Some, IfOk, OnOk, OnErr};
 ghost use Rattle.link_core.specs.Causes.{HasCause, Rose};
-ghost use Rattle.link_core.specs.Link.{Takes, AppendsFront};
+ghost use Rattle.link_core.specs.Link.{Takes, AppendsPrefix};
 
 use crate::script::{is_listed, listed_length};
 use crate::{Failed, Sink};
@@ -9,7 +9,7 @@ use std::alloc::Global;
 
 /// A sink whose writes go into a record.
 ///
-/// It tells all that it holds. Its calls answer `Failed` exactly where their number is on its list of calls to fail,
+/// It tells all that it holds. Its calls return `Failed` exactly when their number is on its list of calls to fail,
 /// where a listed write of a piece with bytes takes nothing, and where there is no memory for the record, which
 /// `starved` counts.
 #[derive(Drop)]
@@ -68,7 +68,7 @@ impl Sink for MemorySink {
 
     fn write(&mut self, piece: &[u8]) -> Result<usize, Failed>
         ensures bound { Takes piece.now result }
-        ensures written { AppendsFront (sink_written self.old) (sink_written self.new) piece.now result }
+        ensures written { AppendsPrefix (sink_written self.old) (sink_written self.new) piece.now result }
         ensures cause { HasCause (sink_faults self.old) (sink_faults self.new) result }
 
         ensures listed { OnErr result (IsToFail (sink_script self.old) piece.now ⊎ Rose self.old.starved self.new.starved) }

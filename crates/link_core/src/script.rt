@@ -1,4 +1,4 @@
-//! What a form in memory is told to do at each of its calls.
+//! What a form in memory is to do at each of its calls.
 ghost use Rattle.std.specs.Prelude.{◌≡◌, ◌↔◌, IsTrue, Contains, min, slice_index_or};
 
 /// How many bytes of `wanted` the call of this number moves: at most what the list has for it, or all past the list.

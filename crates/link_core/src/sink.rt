@@ -1,7 +1,7 @@
 //! A stream that is only written.
 ghost use Rattle.std.specs.Prelude.{ℕ, List, Option};
 ghost use Rattle.link_core.specs.Causes.{HasCause};
-ghost use Rattle.link_core.specs.Link.{Takes, AppendsFront};
+ghost use Rattle.link_core.specs.Link.{Takes, AppendsPrefix};
 
 use crate::Failed;
 
@@ -13,12 +13,12 @@ pub trait Sink {
     /// How often a call has failed.
     ghost faults: { Self → ℕ };
 
-    /// Writes a front of the piece, and answers how many bytes it wrote: of a piece with bytes at least one.
+    /// Writes a prefix of the piece, and returns how many bytes it wrote: of a piece with bytes at least one.
     ///
     /// # Errors
-    /// `Failed` where the count of faults rose. At most a front of the piece was written then.
+    /// `Failed` only if the count of faults rose. At most a prefix of the piece was written then.
     fn write(&mut self, piece: &[u8]) -> Result<usize, Failed>
         ensures bound { Takes piece.now result }
-        ensures written { AppendsFront (written self.old) (written self.new) piece.now result }
+        ensures written { AppendsPrefix (written self.old) (written self.new) piece.now result }
         ensures cause { HasCause (faults self.old) (faults self.new) result };
 }

@@ -7,7 +7,7 @@ use std::io::{Read, Stdin, Stdout, Write};
 /// The reads that a console can give bytes by.
 const READS: u64 = 1 << 63;
 
-/// Standard input and output as one link. It tells nothing of what it holds, and counts its faults.
+/// Standard input and output as one link. Contracts see nothing of what it holds; it counts its faults.
 #[derive(Drop)]
 pub struct ConsoleLink {
     stdin: Stdin,

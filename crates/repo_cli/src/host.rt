@@ -5,7 +5,7 @@ use crate::console::ConsoleLink;
 use link_core::{Host, HostFault};
 use std::io::{Stdin, Stdout};
 
-/// The process itself. It tells nothing of what it holds, and counts its calls and its faults.
+/// The process itself. Contracts see nothing of what it holds; it counts its calls and its faults.
 #[derive(Drop)]
 pub struct RealHost {
     stdin: Stdin,

@@ -1,5 +1,5 @@
-//! The program: it makes the real host, runs the command that its words are, prints one line for what there is to note
-//! on standard error, and ends with the status. All that matters is in `repo_top`.
+//! The program: it makes the real host, runs the command of its arguments, prints one line for what there is to note on
+//! standard error, and ends with the status. All that matters is in `repo_top`.
 #![tactic(auto)]
 
 ghost use Rattle.std.specs.Prelude.{◌≡◌, ◌≢◌};
@@ -10,7 +10,7 @@ mod host;
 mod note;
 
 use crate::host::RealHost;
-use crate::note::words_for;
+use crate::note::{file_name, line_of};
 use doip_json::Str;
 use repo_top::{Note, Words, run_plain};
 use std::alloc::{AllocError, Global};
@@ -18,24 +18,36 @@ use std::io::ErrorKind;
 use std::process::ExitCode;
 use std::{env, io};
 
-// The words after the program's name.
-fn words_of(rt: &HostRuntime, alloc: Global) -> io::Result<Words> {
-    let mut words = Words::empty(alloc);
-    for word in env::args(rt)?.skip(1) {
-        words.push(Str::from_string(word))?;
-    }
-    Ok(words)
+// What the program was started with: the path of its file, and the arguments after it.
+#[derive(Drop)]
+struct Invocation {
+    path: Str,
+    arguments: Words,
 }
 
-// Prints the line for a note. Where that fails there is nobody to tell.
-fn print_note(rt: &HostRuntime, note: Note) {
-    if let Some(words) = words_for(note) {
-        let _ = eprintln!(rt; "zenkawi: {words}");
+// The path and the arguments of the process.
+fn read_invocation(rt: &HostRuntime, alloc: Global) -> io::Result<Invocation> {
+    let mut path = Str::of(alloc, "zenkawi")?;
+    let mut arguments = Words::empty(alloc);
+    for (number, argument) in env::args(rt)?.enumerate() {
+        if number == 0 {
+            path = Str::from_string(argument);
+        } else {
+            arguments.push(Str::from_string(argument))?;
+        }
+    }
+    Ok(Invocation { path, arguments })
+}
+
+// Prints the line of a note. If that fails there is nobody to report it to.
+fn print_note(rt: &HostRuntime, program: &str, note: Note) {
+    if let Some(line) = line_of(program, note) {
+        let _ = eprintln!(rt; "{line}");
     }
 }
 
-// The status of a run that has no words, and what there is to note: there was no memory for them, or they aren't text.
-fn wordless(error: &io::Error) -> (u8, Note)
+// The status of a run whose arguments could not be had, and what there is to note: out of memory, or they aren't text.
+fn status_without_arguments(error: &io::Error) -> (u8, Note)
     ensures memory { error_kind error.now ≡ ErrorKind.OutOfMemory → (result.0 ≡ 4) × (result.1 ≡ Note.Memory) }
     ensures others { error_kind error.now ≢ ErrorKind.OutOfMemory → (result.0 ≡ 2) × (result.1 ≡ Note.Words) }
 {
@@ -48,16 +60,16 @@ fn wordless(error: &io::Error) -> (u8, Note)
 
 fn main(rt: HostRuntime) -> ExitCode {
     let alloc = rt.alloc();
-    let words = match words_of(&rt, alloc) {
-        Ok(words) => words,
+    let invocation = match read_invocation(&rt, alloc) {
+        Ok(invocation) => invocation,
         Err(error) => {
-            let (status, note) = wordless(&error);
-            print_note(&rt, note);
+            let (status, note) = status_without_arguments(&error);
+            print_note(&rt, "zenkawi", note);
             return ExitCode::from(status);
         }
     };
     let mut host = RealHost::new(rt.stdin(), rt.stdout());
-    let ran = run_plain(alloc, &words, &mut host);
-    print_note(&rt, ran.note);
+    let ran = run_plain(alloc, &invocation.arguments, &mut host);
+    print_note(&rt, file_name(invocation.path.get()), ran.note);
     ExitCode::from(ran.status)
 }

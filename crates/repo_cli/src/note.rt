@@ -3,27 +3,40 @@ use doip_segment::Reason;
 use repo_top::{Note, SessionEnd};
 use std::fmt;
 
-/// A note in words.
-#[derive(Clone, Copy, Debug, PartialEq, Eq)]
-pub struct NoteWords(Note);
+/// The line of a note: the name of the program's file, what happened and, where there is something, what to do.
+#[derive(Clone, Copy, Debug)]
+pub struct Line<'a> {
+    program: &'a str,
+    note: Note,
+}
 
-/// The words of a note, `None` where there is nothing to note.
-pub fn words_for(note: Note) -> Option<NoteWords> {
+/// The line of a note, `None` when there is nothing to note.
+pub fn line_of(program: &str, note: Note) -> Option<Line<'_>> {
     match note {
         Note::Nothing => None,
-        note => Some(NoteWords(note)),
+        note => Some(Line { program, note }),
     }
 }
 
-// What is wrong with the bytes of a session.
-fn reason_words(reason: Reason) -> &'static str {
+/// The name of a program's file, of the path that it was started by: what follows the last `/`.
+pub fn file_name(path: &str) -> &str {
+    match path.rsplit_once('/') {
+        Some((_, name)) => name,
+        None => path,
+    }
+}
+
+// Why bytes are no message.
+fn reason_text(reason: Reason) -> &'static str {
     match reason {
-        Reason::Marker => "something else than blanks behind a marker",
-        Reason::Length => "no length of a chunk",
-        Reason::ChunkEnd => "no line feed behind a chunk",
-        Reason::TooMany => "too many segments",
-        Reason::JsonTooLong => "a JSON segment over its limit",
-        Reason::TooLong => "a message over its limit",
+        Reason::Marker => "unexpected byte after '#' or '@'",
+        Reason::Length => "expected the length of a chunk, or '#'",
+        Reason::ChunkEnd => "expected a line feed after the data of a chunk",
+        Reason::TooMany => "more than 2048 segments in a request",
+        Reason::JsonTooLong =>
+            "a JSON segment is over its limit, 1048576 bytes or that of --request",
+        Reason::TooLong =>
+            "a request is over its limit; --request N raises it, up to 16777216 bytes",
     }
 }
 
@@ -31,27 +44,31 @@ fn reason_words(reason: Reason) -> &'static str {
 fn write_end<W: fmt::Write>(end: SessionEnd, f: &mut fmt::Formatter<W>) -> fmt::Result {
     match end {
         SessionEnd::Ended => f.write_str("the input ended"),
-        SessionEnd::Cut { place } => {
-            write!(f, "the input ended inside a message, after byte {place}")
-        }
+        SessionEnd::Cut { place } => write!(
+            f,
+            "the input ended inside a request, after byte {place}; a line '#' ends a segment, and one more the request"
+        ),
         SessionEnd::Framing { place, reason } => {
-            let words = reason_words(reason);
-            write!(f, "framing fault at byte {place}: {words}")
+            let why = reason_text(reason);
+            write!(f, "framing fault at byte {place}: {why}")
         }
-        SessionEnd::ReadFault => f.write_str("a read of the input failed"),
-        SessionEnd::WriteFault => f.write_str("a write of the output failed"),
+        SessionEnd::ReadFault => f.write_str("reading standard input failed"),
+        SessionEnd::WriteFault => f.write_str("writing standard output failed"),
     }
 }
 
-impl fmt::Display for NoteWords {
+impl fmt::Display for Line<'_> {
     fn fmt<W: fmt::Write>(&self, f: &mut fmt::Formatter<W>) -> fmt::Result {
-        match self.0 {
+        write!(f, "{}: ", self.program)?;
+        match self.note {
             Note::Nothing => Ok(()),
-            Note::Words => f.write_str(
-                "usage: answer SERVICE [--address A] [--port N] [--request N]",
+            Note::Words => write!(
+                f,
+                "invalid command line; usage: {} answer SERVICE [--address A] [--port N] [--request N]",
+                self.program
             ),
-            Note::Host => f.write_str("the console can't be had"),
-            Note::Memory => f.write_str("want of memory"),
+            Note::Host => f.write_str("standard input and output are not available"),
+            Note::Memory => f.write_str("out of memory"),
             Note::End(end) => write_end(end, f),
         }
     }

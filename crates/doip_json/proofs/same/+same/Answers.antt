@@ -13,17 +13,17 @@ not_false false e = absurd (cc)
 pub are_same-is_same-requires : goal.are_same-is_same-requires
 are_same-is_same-requires t c = (omega (arith, item_depth c.args.a.now c.loop-i.i (value_of c.item.result.now) c.item.ensures), tt)
 
-pub have_same-is_same-requires : goal.have_same-is_same-requires
-have_same-is_same-requires t c = (omega (arith, entry_depth c.args.a.now c.loop-i.i (value_of c.value_at.result.now) c.value_at.ensures), tt)
+pub is_same_map-is_same-requires : goal.is_same_map-is_same-requires
+is_same_map-is_same-requires t c = (omega (arith, entry_depth c.args.a.now c.loop-i.i (value_of c.value_at.result.now) c.value_at.ensures), tt)
 
 pub are_same-returns : goal.are_same-returns
 are_same-returns t c = (λ _. same_lists c.args.a.now c.args.b.now (omega arith) (λ j h. c.loop-i.invariant j (omega arith)), λ _. refl)
 
-pub have_same-returns : goal.have_same-returns
-have_same-returns t c = (λ _. same_lists c.args.a.now c.args.b.now (omega arith) (λ j h. c.loop-i.invariant j (omega arith)), λ _. refl)
+pub is_same_map-returns : goal.is_same_map-returns
+is_same_map-returns t c = (λ _. same_lists c.args.a.now c.args.b.now (omega arith) (λ j h. c.loop-i.invariant j (omega arith)), λ _. refl)
 
-pub have_same-loop-i-preserved : goal.have_same-loop-i-preserved
-have_same-loop-i-preserved t c =
+pub is_same_map-loop-i-preserved : goal.is_same_map-loop-i-preserved
+is_same_map-loop-i-preserved t c =
     let i = c.loop-i.i in
     let a = entry_read c.args.a.now i c.key_at.result.now (value_of c.value_at.result.now) c.key_at.ensures c.value_at.ensures in
     let b = entry_read c.args.b.now i c.key_at-in-loop-i.result.now (value_of c.value_at-else-ne.result.now) c.key_at-in-loop-i.ensures c.value_at-else-ne.ensures in
@@ -39,6 +39,6 @@ is_same-returns-in-Items-Items t c =
 
 pub is_same-returns-in-Table-Table : goal.is_same-returns-in-Table-Table
 is_same-returns-in-Table-Table t c =
-    let both = c.have_same.ensures in
+    let both = c.is_same_map.ensures in
     let x = c.in-Table-Table.x in let y = c.in-Table-Table.y in
     rw (c.in-Table-Table.is-0, c.in-Table-Table.is-1) (λ yes. ap (λ vs. table (entries_from vs)) (both.0 yes), λ same. both.1 (same_entries x y same))
