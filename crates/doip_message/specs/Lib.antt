@@ -3,3 +3,4 @@ pub mod Reading
 pub mod Fields
 pub mod Reply
 pub mod Entries
+pub mod Fixed

@@ -1,8 +1,7 @@
 //! Replies whose texts are fixed, so that they need no memory when they are due.
-ghost use Rattle.std.specs.Prelude.{◌≡◌, None, codes};
-ghost use Rattle.doip_message.specs.Reply.{reply_text, refusal};
-
-use crate::Status;
+ghost use Rattle.std.specs.Prelude.{◌≡◌};
+ghost use Rattle.doip_message.specs.Reply.{reply_text};
+ghost use Rattle.doip_message.specs.Fixed.{memory_reply, disk_reply, closed_reply, framing_reply};
 
 /// The reply where a turn found no memory.
 pub const MEMORY_TEXT: &[u8] =
@@ -20,10 +19,10 @@ pub const CLOSED_TEXT: &[u8] =
 pub const FRAMING_TEXT: &[u8] =
     b"{\"attributes\":{\"message\":\"framing fault\"},\"status\":\"0.DOIP/Status.101\"}\n#\n#\n";
 
-/// The fixed texts are the replies of their refusals, which carry no mark. It does nothing when it runs.
+/// Each fixed text is the text of its reply, which carries no request id. It does nothing when it runs.
 pub fn fixed_texts_are_replies()
-    ensures memory { MEMORY_TEXT.now ≡ reply_text (refusal None Status.Other500 (codes "want of memory")) }
-    ensures disk { DISK_TEXT.now ≡ reply_text (refusal None Status.Other500 (codes "disk fault")) }
-    ensures closed { CLOSED_TEXT.now ≡ reply_text (refusal None Status.Other500 (codes "store closed")) }
-    ensures framing { FRAMING_TEXT.now ≡ reply_text (refusal None Status.Invalid (codes "framing fault")) }
+    ensures memory { MEMORY_TEXT.now ≡ reply_text memory_reply }
+    ensures disk { DISK_TEXT.now ≡ reply_text disk_reply }
+    ensures closed { CLOSED_TEXT.now ≡ reply_text closed_reply }
+    ensures framing { FRAMING_TEXT.now ≡ reply_text framing_reply }
 {}

@@ -1,55 +1,107 @@
--- Histories of the one-thread repository. This project's own.
-use Rattle.std.specs.Prelude.{◌≤◌, ℕ, List, [], ◌∷◌, map, filter, Bool, ◌&&◌, nat_eq, flat_map, None, codes}
+-- Histories of the one-thread repository, and the replies to them in one pass from state to state. This project's own.
+use Rattle.std.specs.Prelude.{◌≤◌, ℕ, List, [], ◌∷◌, ◌++◌, map, Bool, ◌&&◌, nat_eq, if◌then◌else◌, Option, Some, None, unwrap_or}
 use Rattle.doip_segment.specs.Segments.{Segment}
-use Rattle.doip_message.specs.declared.response.Status.TheVariants.{Other500}
-use Rattle.doip_message.specs.Reply.{Replied, refusal, reply_text}
-use Rattle.repo_step.specs.declared.config.Config.{Config}
+use Rattle.doip_message.specs.Reply.{Replied, reply_text}
+use Rattle.doip_message.specs.Fixed.{memory_reply}
+use Rattle.repo_step.specs.declared.brought.Brought.{Brought}
 use Rattle.repo_step.specs.declared.outcome.Outcome.{Outcome}
 use Rattle.repo_step.specs.declared.outcome.Outcome.TheVariants.{Done, NoMemory}
-use Rattle.repo_step.specs.Step.{step}
+use Rattle.repo_step.specs.Setting.{Setting, State}
+use Rattle.repo_step.specs.Step.{Plan, step}
 
--- one turn: the lane and its session that asked, the message, how it ended, and when, by the disk's clock (0 without a disk)
+-- one turn: its lane and session, the message, how it ended, when by the disk's clock, and what it brought
 pub record Entry : Type 0 where
   pub lane : ℕ
   pub session : ℕ
   pub message : List Segment
   pub outcome : Outcome
   pub moment : ℕ
+  pub brought : Brought
 
--- Moments never fall along a history.
-abbrev pub MomentsFrom : ℕ → List Entry → Type 0
-MomentsFrom m [] = Unit {0}
-MomentsFrom m (e ∷ es) = (m ≤ e.moment) × MomentsFrom e.moment es
+-- some entries and a last one, or none
+abbrev pub entries_with : Option (List Entry × Entry) → List Entry
+entries_with None = []
+entries_with (Some parts) = parts.0 ++ parts.1 ∷ []
 
--- What a history of a repository without a store keeps: no disk can fail in it.
-abbrev pub Legal : List Entry → Type 0
-Legal history = MomentsFrom 0 history
+-- the reply that an outcome fixes; a turn that is done replies as its step does
+abbrev pub fixed_reply : Outcome → Option Replied
+fixed_reply Done = None
+fixed_reply NoMemory = Some memory_reply
 
--- the reply of an outcome: that of the step, or the refusal for want of memory
+-- the reply of an outcome, where the step's is this
 abbrev pub reply_with : Outcome → Replied → Replied
-reply_with Done reply = reply
-reply_with NoMemory reply = refusal None Other500 (codes "want of memory")
+reply_with outcome made = unwrap_or (fixed_reply outcome) made
 
--- the reply to an entry
-abbrev pub reply_of : Config → Entry → Replied
-reply_of config e = reply_with e.outcome (step config e.message)
+-- the state that an outcome leaves, where it found the first and the step's is the second
+abbrev pub state_with : Outcome → State → State → State
+state_with Done before afterwards = afterwards
+state_with NoMemory before afterwards = before
 
--- the text of the reply to an entry
-abbrev pub entry_text : Config → Entry → List ℕ
-entry_text config e = reply_text (reply_of config e)
+-- the step of an entry
+abbrev pub step_of : Setting → State → Entry → Plan
+step_of setting state e = step setting e.brought state e.message
 
--- the texts of the replies, in order
-abbrev pub replies_text : Config → List Entry → List ℕ
-replies_text config entries = flat_map (entry_text config) entries
+-- the reply to an entry in the state before it
+abbrev pub reply : Setting → State → Entry → Replied
+reply setting state e = reply_with e.outcome (step_of setting state e).reply
 
--- the messages of entries, in order
-abbrev pub messages_of : List Entry → List (List Segment)
-messages_of = map (λ e. e.message)
+-- the state after an entry
+abbrev pub after : Setting → State → Entry → State
+after setting state e = state_with e.outcome state (step_of setting state e).state
+
+-- the state after items that give an entry each
+abbrev pub state_after : {A : Type 0} → Setting → (A → Entry) → State → List A → State
+state_after setting entry_of state [] = state
+state_after setting entry_of state (a ∷ more) = state_after setting entry_of (after setting state (entry_of a)) more
+
+-- an entry with the reply to it
+pub record Exchange : Type 0 where
+  pub entry : Entry
+  pub reply : Replied
+
+-- the exchange of an entry in the state before it
+abbrev pub exchange_of : Setting → State → Entry → Exchange
+exchange_of setting state e = record { entry = e; reply = reply setting state e }
+
+-- Of the items that pass the test, each entry with its reply, in the state that all items before it left.
+abbrev pub exchanges_where : {A : Type 0} → Setting → (A → Entry) → (A → Bool) → State → List A → List Exchange
+exchanges_where setting entry_of passes state [] = []
+exchanges_where setting entry_of passes state (a ∷ more) =
+    if passes a
+    then exchange_of setting state (entry_of a)
+    ∷ exchanges_where setting entry_of passes (after setting state (entry_of a)) more
+    else exchanges_where setting entry_of passes (after setting state (entry_of a)) more
+
+-- the exchanges of the entries of a history that pass the test
+abbrev pub exchanges_of : Setting → (Entry → Bool) → State → List Entry → List Exchange
+exchanges_of setting passes first history = exchanges_where setting (λ e. e) passes first history
+
+-- the state after a history
+abbrev pub state_of : Setting → State → List Entry → State
+state_of setting first history = state_after setting (λ e. e) first history
+
+-- a message and the text of the reply to it
+abbrev pub pair_of : Exchange → List Segment × List ℕ
+pair_of x = (x.entry.message, reply_text x.reply)
+
+-- the messages and the texts of the replies of the items that pass
+abbrev pub pairs_where : {A : Type 0} → Setting → (A → Entry) → (A → Bool) → State → List A
+    → List (List Segment × List ℕ)
+pairs_where setting entry_of passes state items = map pair_of (exchanges_where setting entry_of passes state items)
 
 -- the entry is of this session
 abbrev pub is_of : ℕ → ℕ → Entry → Bool
 is_of lane session e = nat_eq e.lane lane && nat_eq e.session session
 
--- the entries of one session
-abbrev pub entries_of : ℕ → ℕ → List Entry → List Entry
-entries_of lane session history = filter (is_of lane session) history
+-- the pairs of one session of a history
+abbrev pub pairs_of : Setting → ℕ → ℕ → State → List Entry → List (List Segment × List ℕ)
+pairs_of setting lane session first history = pairs_where setting (λ e. e) (is_of lane session) first history
+
+-- Moments never fall along a history.
+abbrev pub MomentsFrom : ℕ → List Entry → Type 0
+MomentsFrom moment [] = Unit {0}
+MomentsFrom moment (e ∷ es) = (moment ≤ e.moment) × MomentsFrom e.moment es
+
+-- What a history from a first state keeps. Done and out of memory may come in every state.
+pub record Legal (setting : Setting) (first : State) (history : List Entry) : Type 0 where
+  pub moments : MomentsFrom 0 history

@@ -1,5 +1,6 @@
-pub mod Setup
+pub mod Setting
+pub mod Chain
 pub mod Refusals
 pub mod Step
 pub mod History
-pub mod Fixed
+pub mod Laws

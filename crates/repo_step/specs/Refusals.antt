@@ -1,27 +1,51 @@
--- What is wrong with a message that is no request, in words. This project's own.
-use Rattle.std.specs.Prelude.{ℕ, List, Option, Some, None, codes}
+-- The status and the message of each refusal, as in the table of refusals. This project's own.
+use Rattle.std.specs.Prelude.{ℕ, List, [], Option, codes}
 use Rattle.doip_json.specs.declared.reading.JsonFault.TheVariants as json
 use Rattle.doip_message.specs.declared.request.FieldName.{FieldName}
 use Rattle.doip_message.specs.declared.request.FieldName.TheVariants as names
 use Rattle.doip_message.specs.declared.request.Why.{Why}
 use Rattle.doip_message.specs.declared.request.Why.TheVariants.{NoSegment, FirstIsBytes, Json, NotTable, Field, TwoInputs, Memory}
+use Rattle.doip_message.specs.declared.response.Status.{Status}
+use Rattle.doip_message.specs.declared.response.Status.TheVariants as statuses
+use Rattle.doip_message.specs.Reply.{Replied, refusal}
+use Rattle.repo_step.specs.declared.refusal.Refusal.{Refusal}
+use Rattle.repo_step.specs.declared.refusal.Refusal.TheVariants.{Invalid, AuthenticationRefused, OperationUnknown, TargetUnknown}
 
-abbrev pub field_words : FieldName → List ℕ
-field_words names.RequestId = codes "field: requestId"
-field_words names.TargetId = codes "field: targetId"
-field_words names.OperationId = codes "field: operationId"
-field_words names.Attributes = codes "field: attributes"
-field_words names.Status = codes "field: status"
+-- which property is wrong
+abbrev pub field_message : FieldName → List ℕ
+field_message names.RequestId = codes "field: requestId"
+field_message names.TargetId = codes "field: targetId"
+field_message names.OperationId = codes "field: operationId"
+field_message names.Attributes = codes "field: attributes"
+field_message names.Status = codes "field: status"
 
--- the words for a fault; want of memory has none, and no definition gives it
-abbrev pub fault_words : Why → Option (List ℕ)
-fault_words NoSegment = Some (codes "no segment")
-fault_words FirstIsBytes = Some (codes "first segment is bytes")
-fault_words (Json json.NotJson) = Some (codes "first segment: not JSON")
-fault_words (Json json.TooDeep) = Some (codes "first segment: nested too deep")
-fault_words (Json json.NotWhole) = Some (codes "first segment: number is not whole")
-fault_words (Json json.Memory) = None
-fault_words NotTable = Some (codes "first segment: not an object")
-fault_words (Field name) = Some (field_words name)
-fault_words TwoInputs = Some (codes "input twice")
-fault_words Memory = None
+-- why a message is no request; out of memory is no fault of the message, and has none
+abbrev pub fault_message : Why → List ℕ
+fault_message NoSegment = codes "no segment"
+fault_message FirstIsBytes = codes "first segment is bytes"
+fault_message (Json json.NotJson) = codes "first segment: not JSON"
+fault_message (Json json.TooDeep) = codes "first segment: nested too deep"
+fault_message (Json json.NotWhole) = codes "first segment: number is not whole"
+fault_message (Json json.Memory) = []
+fault_message NotTable = codes "first segment: not an object"
+fault_message (Field name) = field_message name
+fault_message TwoInputs = codes "input twice"
+fault_message Memory = []
+
+-- the status of a refusal
+abbrev pub refusal_status : Refusal → Status
+refusal_status (Invalid why) = statuses.Invalid
+refusal_status AuthenticationRefused = statuses.NotAuthenticated
+refusal_status OperationUnknown = statuses.Declined
+refusal_status TargetUnknown = statuses.Unknown
+
+-- the message of a refusal
+abbrev pub refusal_message : Refusal → List ℕ
+refusal_message (Invalid why) = fault_message why
+refusal_message AuthenticationRefused = codes "authentication refused"
+refusal_message OperationUnknown = codes "operation unknown"
+refusal_message TargetUnknown = codes "target unknown"
+
+-- the reply of a refusal, with the request id that was asked
+abbrev pub refused : Option (List ℕ) → Refusal → Replied
+refused request_id why = refusal request_id (refusal_status why) (refusal_message why)

@@ -1,58 +1,89 @@
--- One step of the repository: the reply to a message (the operations are those of DOIP 2.0; the order of refusals is this project's own).
-use Rattle.std.specs.Prelude.{ℕ, List, [], ◌∷◌, Result, Ok, Err, Bool, true, false, not, codes, nat_eq, is_some, unwrap_or}
+-- One step of the repository (the operations are those of DOIP 2.0; the order of refusals is this project's own).
+use Rattle.std.specs.Prelude.{ℕ, List, [], Option, Some, None, Result, Ok, Err, Bool, codes, nat_eq, is_none, if◌then◌else◌}
 use Rattle.std.specs.Cmp.Lexicographic.{pointwise}
 use Rattle.doip_segment.specs.Segments.{Segment}
-use Rattle.doip_message.specs.declared.response.Status.TheVariants.{Done, Invalid, NotAuthenticated, Declined, Unknown}
+use Rattle.doip_message.specs.declared.response.Status.TheVariants.{Done}
+use Rattle.doip_message.specs.declared.request.Body.{Body}
 use Rattle.doip_message.specs.declared.request.RequestFault.{RequestFault}
-use Rattle.doip_message.specs.Asked.{one_value, Asked}
+use Rattle.doip_message.specs.Asked.{Content, one_value, Asked, content_of}
 use Rattle.doip_message.specs.Reading.{request}
-use Rattle.doip_message.specs.Reply.{Replied, refusal}
-use Rattle.repo_step.specs.declared.config.Config.{Config}
-use Rattle.repo_step.specs.Setup.{information_of}
-use Rattle.repo_step.specs.Refusals.{fault_words}
+use Rattle.doip_message.specs.Reply.{Replied}
+use Rattle.repo_step.specs.declared.brought.Brought.{Brought}
+use Rattle.repo_step.specs.declared.operation.Operation.{Operation}
+use Rattle.repo_step.specs.declared.operation.Operation.TheVariants.{Hello}
+use Rattle.repo_step.specs.declared.refusal.Refusal.{Refusal}
+use Rattle.repo_step.specs.declared.refusal.Refusal.TheVariants.{Invalid, AuthenticationRefused, OperationUnknown, TargetUnknown}
+use Rattle.repo_step.specs.Setting.{Setting, State, information_of}
+use Rattle.repo_step.specs.Chain.{unless, found, read}
+use Rattle.repo_step.specs.Refusals.{refused}
+
+-- What an operation comes to: its output, and the state afterwards.
+pub record Effect : Type 0 where
+  pub output : Content
+  pub state : State
+
+-- the effect of an operation that changes nothing, by the output in the reply
+abbrev pub unchanged : State → Body → Effect
+unchanged state output = record { output = content_of output; state = state }
+
+-- What a step comes to: the reply, and the state afterwards.
+pub record Plan : Type 0 where
+  pub reply : Replied
+  pub state : State
 
 -- the same text
 abbrev pub is_text : List ℕ → List ℕ → Bool
 is_text = pointwise nat_eq
 
--- the operation that tells what the service is
-abbrev pub hello : List ℕ
-hello = codes "0.DOIP/Op.Hello"
+-- the operation that an identifier names
+abbrev pub operation_in : List ℕ → Option Operation
+operation_in identifier = if is_text identifier (codes "0.DOIP/Op.Hello") then Some Hello else None
 
--- A row of the table of refusals: whether it holds, and its reply.
-pub record Row : Type 0 where
-  pub holds : Bool
-  pub reply : Replied
+-- what an operation outputs
+abbrev pub output_of : Setting → Operation → Content
+output_of setting Hello = one_value (information_of setting)
 
-abbrev pub row : Bool → Replied → Row
-row holds reply = record { holds = holds; reply = reply }
+-- what an operation comes to
+abbrev pub operate : Setting → Brought → State → Operation → Effect
+operate setting brought state operation = record { output = output_of setting operation; state = state }
 
-abbrev pub chosen : Bool → Replied → Replied → Replied
-chosen true a b = a
-chosen false a b = b
+-- The refusals of a request in order, a row a line, and after them its operation.
+abbrev pub accepted : Setting → Brought → State → Asked → Result Effect Refusal
+accepted setting brought state asked =
+    unless (is_none asked.properties.authentication) AuthenticationRefused (
+    found (operation_in asked.properties.operation_id) OperationUnknown (λ operation.
+    unless (is_text asked.properties.target_id setting.service) TargetUnknown (
+    Ok (operate setting brought state operation))))
 
--- the reply of the first row that holds, and the operation's own reply where none does
-abbrev pub first_row : List Row → Replied → Replied
-first_row [] own = own
-first_row (r ∷ rows) own = chosen r.holds r.reply (first_row rows own)
+-- a message that is no request is refused for its first fault
+abbrev pub valid : Result Asked RequestFault → Result Asked Refusal
+valid (Ok asked) = Ok asked
+valid (Err fault) = Err (Invalid fault.why)
 
--- The refusals of a request, in order: it authenticates, and there are no accounts; no such operation; the target is not the service.
-abbrev pub refusals : Config → Asked → List Row
-refusals config q =
-    row (is_some q.properties.authentication) (refusal q.request_id NotAuthenticated (codes "authentication refused"))
-    ∷ row (not (is_text q.properties.operation_id hello)) (refusal q.request_id Declined (codes "operation unknown"))
-    ∷ row (not (is_text q.properties.target_id config.service)) (refusal q.request_id Unknown (codes "target unknown"))
-    ∷ []
+-- The whole table of refusals, from what was read of the message.
+abbrev pub effect_of : Setting → Brought → State → Result Asked RequestFault → Result Effect Refusal
+effect_of setting brought state meant =
+    read (valid meant) (λ asked.
+    accepted setting brought state asked)
 
--- what Hello answers
-abbrev pub hello_reply : Config → Asked → Replied
-hello_reply config q = record { request_id = q.request_id; status = Done; attributes = []; output = one_value (information_of config) }
+-- the request id that the reply carries
+abbrev pub request_id_of : Result Asked RequestFault → Option (List ℕ)
+request_id_of (Ok asked) = asked.request_id
+request_id_of (Err fault) = fault.request_id
 
--- the reply to a request, or the refusal of a message that is none
-abbrev pub reply_to : Config → Result Asked RequestFault → Replied
-reply_to config (Ok q) = first_row (refusals config q) (hello_reply config q)
-reply_to config (Err fault) = refusal fault.request_id Invalid (unwrap_or (fault_words fault.why) [])
+-- the reply with an operation's output
+abbrev pub done : Option (List ℕ) → Content → Replied
+done request_id output = record { request_id = request_id; status = Done; attributes = []; output = output }
 
--- the reply to a message
-abbrev pub step : Config → List Segment → Replied
-step config message = reply_to config (request message)
+-- An operation that is accepted replies with its output; a refusal changes nothing.
+abbrev pub plan_with : Option (List ℕ) → State → Result Effect Refusal → Plan
+plan_with request_id state (Ok effect) = record { reply = done request_id effect.output; state = effect.state }
+plan_with request_id state (Err refusal) = record { reply = refused request_id refusal; state = state }
+
+-- the plan for what was read of a message
+abbrev pub plan_of : Setting → Brought → State → Result Asked RequestFault → Plan
+plan_of setting brought state meant = plan_with (request_id_of meant) state (effect_of setting brought state meant)
+
+-- the reply to a message, and the state afterwards
+abbrev pub step : Setting → Brought → State → List Segment → Plan
+step setting brought state message = plan_of setting brought state (request message)

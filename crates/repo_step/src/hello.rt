@@ -3,25 +3,25 @@ ghost use Rattle.std.specs.Prelude.{◌≡◌, pos, codes, IfOk, OnOk, OnErr};
 ghost use Rattle.std.specs.Ordering.{nat_cmp};
 ghost use Rattle.std.specs.Cmp.Lexicographic.{slice_cmp};
 ghost use Rattle.std.specs.BTreeMap.{insert_entry};
-ghost use Rattle.doip_json.specs.Value.{text, whole, table, entries_from};
+ghost use Rattle.doip_json.specs.Value as values;
 ghost use Rattle.doip_json.specs.Meaning.{value_of};
-ghost use Rattle.repo_step.specs.Setup.{attributes_in, information_of};
+ghost use Rattle.repo_step.specs.Setting.{setting_of, addresses_of, information_of};
 
 use crate::Config;
 use doip_json::{Json, JsonMap, Num, Str};
 use std::alloc::{AllocError, Global};
 
 // Puts a copy of the text at the key.
-fn put_text(alloc: Global, entries: &mut JsonMap, key: &str, words: &str) -> Result<(), AllocError>
-    ensures { OnOk result (entries.new ≡ insert_entry (slice_cmp nat_cmp) entries.old key.now (text words.now)) }
+fn add_text(alloc: Global, entries: &mut JsonMap, key: &str, text: &str) -> Result<(), AllocError>
+    ensures { OnOk result (entries.new ≡ insert_entry (slice_cmp nat_cmp) entries.old key.now (values.text text.now)) }
 {
-    let value = Json::Text(Str::of(alloc, words)?);
+    let value = Json::Text(Str::of(alloc, text)?);
     entries.put(Str::of(alloc, key)?, value)
 }
 
 // A port as a value: every number of 16 bits is one of JSON.
 fn number(port: u16) -> Json
-    ensures { value_of result ≡ whole (pos port) }
+    ensures { value_of result ≡ values.whole (pos port) }
 {
     match Num::new(i128::from(port)) {
         Some(number) => Json::Whole(number),
@@ -30,25 +30,25 @@ fn number(port: u16) -> Json
 }
 
 // How to reach the service.
-fn attributes_of(alloc: Global, config: &Config) -> Result<JsonMap, AllocError>
-    ensures { IfOk result (λ entries. entries ≡ attributes_in config.now) }
+fn addresses(alloc: Global, config: &Config) -> Result<JsonMap, AllocError>
+    ensures { IfOk result (λ entries. entries ≡ addresses_of (setting_of config.now)) }
 {
     let mut entries = JsonMap::empty(alloc);
-    put_text(alloc, &mut entries, "ipAddress", config.address.get())?;
+    add_text(alloc, &mut entries, "ipAddress", config.address.get())?;
     entries.put(Str::of(alloc, "port")?, number(config.port))?;
-    put_text(alloc, &mut entries, "protocol", "TCP")?;
-    put_text(alloc, &mut entries, "protocolVersion", "2.0")?;
+    add_text(alloc, &mut entries, "protocol", "TCP")?;
+    add_text(alloc, &mut entries, "protocolVersion", "2.0")?;
     Ok(entries)
 }
 
-/// The service's information, which Hello answers.
+/// The service's information, which is the output of Hello.
 pub(crate) fn information(alloc: Global, config: &Config) -> Result<Json, AllocError>
-    ensures { IfOk result (λ json. value_of json ≡ information_of config.now) }
+    ensures { IfOk result (λ json. value_of json ≡ information_of (setting_of config.now)) }
 {
-    let attributes = attributes_of(alloc, config)?;
+    let attributes = addresses(alloc, config)?;
     let mut entries = JsonMap::empty(alloc);
     entries.put(Str::of(alloc, "attributes")?, Json::Table(attributes))?;
-    put_text(alloc, &mut entries, "id", config.service.get())?;
-    put_text(alloc, &mut entries, "type", "0.TYPE/DOIPServiceInfo")?;
+    add_text(alloc, &mut entries, "id", config.service.get())?;
+    add_text(alloc, &mut entries, "type", "0.TYPE/DOIPServiceInfo")?;
     Ok(Json::Table(entries))
 }

@@ -5,6 +5,6 @@
 pub enum Outcome {
     /// With the reply of the step.
     Done,
-    /// For want of memory, and the reply says so.
+    /// Out of memory, and the reply says so.
     NoMemory,
 }

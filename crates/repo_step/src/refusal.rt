@@ -1,62 +1,128 @@
-//! Refusals and their messages.
-ghost use Rattle.std.specs.Prelude.{◌≡◌, IfOk, option_map};
-ghost use Rattle.doip_message.specs.Reply.{replied_of, refusal};
-ghost use Rattle.repo_step.specs.Refusals.{fault_words, field_words};
+//! Refusals, with the status and the message of each.
+ghost use Rattle.std.specs.Prelude.{◌≡◌, IfOk, Ok, Err};
+ghost use Rattle.doip_message.specs.Reply.{replied_of};
+ghost use Rattle.repo_step.specs.Refusals as spec;
+ghost use Rattle.repo_step.specs.Chain as chain;
 
 use doip_json::{Json, JsonFault, JsonMap, Str};
 use doip_message::{Body, FieldName, Response, Status, Why};
 use std::alloc::{AllocError, Global};
 
-/// A refusal with its one attribute.
-pub(crate) fn refused(
-    alloc: Global,
-    request_id: Option<Str>,
-    status: Status,
-    message: &str,
-) -> Result<Response, AllocError>
-    ensures { IfOk result (λ p. replied_of p ≡ refusal request_id status message.now) }
-{
-    let mut attributes = JsonMap::empty(alloc);
-    let value = Json::Text(Str::of(alloc, message)?);
-    attributes.put(Str::of(alloc, "message")?, value)?;
-    Ok(Response {
-        request_id,
-        status,
-        attributes,
-        output: Body::Nothing,
-    })
+/// Why a request is refused, in the order of the table of refusals.
+#[derive(Clone, Copy, Debug, PartialEq, Eq)]
+pub enum Refusal {
+    /// The message is no request, for this first fault.
+    Invalid { why: Why },
+    /// The request has credentials, and there are no accounts.
+    AuthenticationRefused,
+    /// No operation has this identifier.
+    OperationUnknown,
+    /// The target isn't the service.
+    TargetUnknown,
 }
 
-/// What is wrong with a message that is no request, in words; `None` for want of memory.
-pub(crate) fn words_for(why: Why) -> Option<&'static str>
-    ensures { option_map (λ words. words.now) result ≡ fault_words why }
-{
-    match why {
-        Why::NoSegment => Some("no segment"),
-        Why::FirstIsBytes => Some("first segment is bytes"),
-        Why::Json(fault) => json_words_for(fault),
-        Why::NotTable => Some("first segment: not an object"),
-        Why::Field { name } => Some(field_words_for(name)),
-        Why::TwoInputs => Some("input twice"),
-        Why::Memory => None,
+/// Why a step has no output.
+#[derive(Clone, Copy, Debug, PartialEq, Eq)]
+pub enum Stop {
+    /// The request is refused.
+    Refused(Refusal),
+    /// Out of memory.
+    Memory,
+}
+
+impl From<AllocError> for Stop {
+    ghost use Rattle.repo_step.specs.declared.refusal.Stop.TheVariants.{Memory};
+
+    ghost from_gives = { λ e stop. stop ≡ Memory };
+
+    fn from(_: AllocError) -> Stop {
+        Stop::Memory
     }
 }
 
-// What is wrong with the first segment's text.
-fn json_words_for(fault: JsonFault) -> Option<&'static str>
-    ensures { option_map (λ words. words.now) result ≡ fault_words (Why.Json fault) }
+impl From<Refusal> for Stop {
+    ghost use Rattle.repo_step.specs.declared.refusal.Stop.TheVariants.{Refused};
+
+    ghost from_gives = { λ refusal stop. stop ≡ Refused refusal };
+
+    fn from(refusal: Refusal) -> Stop {
+        Stop::Refused(refusal)
+    }
+}
+
+impl Refusal {
+    /// The status.
+    pub fn status(self) -> Status
+        ensures { result ≡ spec.refusal_status self }
+    {
+        match self {
+            Refusal::Invalid { .. } => Status::Invalid,
+            Refusal::AuthenticationRefused => Status::NotAuthenticated,
+            Refusal::OperationUnknown => Status::Declined,
+            Refusal::TargetUnknown => Status::Unknown,
+        }
+    }
+
+    /// The message.
+    pub fn message(self) -> &'static str
+        ensures { result.now ≡ spec.refusal_message self }
+    {
+        match self {
+            Refusal::Invalid { why } => fault_message(why),
+            Refusal::AuthenticationRefused => "authentication refused",
+            Refusal::OperationUnknown => "operation unknown",
+            Refusal::TargetUnknown => "target unknown",
+        }
+    }
+
+    /// The response, whose one attribute is the message.
+    pub(crate) fn response(
+        self,
+        alloc: Global,
+        request_id: Option<Str>,
+    ) -> Result<Response, AllocError>
+        ensures { IfOk result (λ response. replied_of response ≡ spec.refused request_id self) }
+    {
+        let mut attributes = JsonMap::empty(alloc);
+        let message = Json::Text(Str::of(alloc, self.message())?);
+        attributes.put(Str::of(alloc, "message")?, message)?;
+        Ok(Response {
+            request_id,
+            status: self.status(),
+            attributes,
+            output: Body::Nothing,
+        })
+    }
+}
+
+/// Refuses unless it holds.
+pub(crate) fn unless(holds: bool, refusal: Refusal) -> Result<(), Refusal>
+    ensures { result ≡ chain.unless holds refusal (Ok tt) }
 {
-    match fault {
-        JsonFault::NotJson => Some("first segment: not JSON"),
-        JsonFault::TooDeep => Some("first segment: nested too deep"),
-        JsonFault::NotWhole => Some("first segment: number is not whole"),
-        JsonFault::Memory => None,
+    if holds { Ok(()) } else { Err(refusal) }
+}
+
+// Why a message is no request.
+fn fault_message(why: Why) -> &'static str
+    ensures { result.now ≡ spec.fault_message why }
+{
+    match why {
+        Why::NoSegment => "no segment",
+        Why::FirstIsBytes => "first segment is bytes",
+        Why::Json(JsonFault::NotJson) => "first segment: not JSON",
+        Why::Json(JsonFault::TooDeep) => "first segment: nested too deep",
+        Why::Json(JsonFault::NotWhole) => "first segment: number is not whole",
+        Why::NotTable => "first segment: not an object",
+        Why::Field { name } => field_message(name),
+        Why::TwoInputs => "input twice",
+        // No refusal is made of these.
+        Why::Json(JsonFault::Memory) | Why::Memory => "",
     }
 }
 
 // Which property is wrong.
-fn field_words_for(name: FieldName) -> &'static str
-    ensures { result.now ≡ field_words name }
+fn field_message(name: FieldName) -> &'static str
+    ensures { result.now ≡ spec.field_message name }
 {
     match name {
         FieldName::RequestId => "field: requestId",
