@@ -1,5 +1,5 @@
 -- Bytes on their way from a link through a reader into a decoder.
-use Rattle.std.proofs.Common.{◌≡◌, ◌≤◌, ◌+◌, ◌-◌, ◌^◌, ℕ, min, ◌<◌, ◌⊎◌, inl, inr, List, Option, [], ◌++◌, length, take, drop, refl, sym, ap, ◌∙◌, subst, arith, append_assoc, append-nil, length-append}
+use Rattle.std.proofs.Common.{◌≡◌, ◌≤◌, ◌+◌, ◌-◌, ◌^◌, ℕ, min, ◌<◌, ◌⊎◌, inl, inr, List, [], ◌++◌, length, take, drop, refl, sym, ap, ◌∙◌, subst, arith, append_assoc, append-nil, length-append}
 use Rattle.std.proofs.lemmas.List.{take-append-drop, drop-take, drop-drop, length-take, length-take-le}
 use Rattle.std.proofs.Math.Seq.{take-append_seam}
 use Rattle.std.proofs.KnownBytes.{Appends-nil, Appends-trans, Consumes-nil, Consumes-trans}
@@ -7,19 +7,17 @@ use Rattle.std.specs.Io.KnownBytes.{Appends, Consumes}
 use Rattle.doip_segment.specs.declared.outcome.Limits.{Limits}
 use Rattle.doip_segment.specs.declared.outcome.Step.{Step}
 use Rattle.doip_segment.specs.declared.outcome.Step.TheVariants as steps
-use Rattle.doip_segment.specs.declared.outcome.Reason.{Reason}
-use Rattle.doip_segment.specs.declared.phase.Phase.{Phase}
-use Rattle.doip_segment.specs.declared.phase.Phase.TheVariants.{Due, Text, LineStart, JsonEnd, BytesStart, ChunkDue, Digits, Padding, Data, DataEnd, BytesEnd, MessageEnd, Whole, Stuck}
 use Rattle.doip_segment.specs.Segments.{Segment}
 use Rattle.doip_segment.specs.Framing.{Spelt, IsUnfinished, Broken, NothingSpelt}
-use Rattle.doip_segment.specs.Decoding.{Decoding, Took, Frames, outcome_of}
+use Rattle.doip_segment.specs.Decoding.{Decoding, Took, Frames}
 use Rattle.session_core.specs.declared.reader.Next.{Next}
 use Rattle.session_core.specs.declared.reader.Next.TheVariants as nexts
-use Rattle.session_core.specs.Reading.{Feeds, FeedsHeld, FramesHeld, Flows, MatchesEnd, step_of}
+use Rattle.session_core.specs.Report.{Report}
+use Rattle.session_core.specs.Reading.{Feeds, FeedsHeld, FramesHeld, Flows, Stage, stage, MatchesEnd, step_of}
 
--- what a buffer holds behind n more bytes
-held_behind : (s e n : ℕ) (bs : List ℕ) → s + n ≤ e → take (e - (s + n)) (drop (s + n) bs) ≡ drop n (take (e - s) (drop s bs))
-held_behind s e n bs within =
+-- what a buffer holds after n more bytes
+held_after : (s e n : ℕ) (bs : List ℕ) → s + n ≤ e → take (e - (s + n)) (drop (s + n) bs) ≡ drop n (take (e - s) (drop s bs))
+held_after s e n bs within =
     let m : ℕ = e - (s + n) in
     let width : n + m ≡ e - s = omega arith in
     ap (λ (w : List ℕ). take m w) (sym (drop-drop n s bs)) ∙ sym (drop-take n m (drop s bs)) ∙ ap (λ (k : ℕ). drop n (take k (drop s bs))) width
@@ -35,7 +33,7 @@ held_framed step s e n bs lent held old new same view order within limits took p
     let short : n ≤ e - s = omega (arith, within, length-take (e - s) (drop s lent)) in
     let fits : n ≤ length held = omega (arith, within, ap length slice) in
     let size : length (take n held) ≡ n = length-take-le n held fits in
-    let rest : take (e - (s + n)) (drop (s + n) bs) ≡ drop n held = held_behind s e n bs (omega arith) ∙ ap (λ (w : List ℕ). drop n w) view in
+    let rest : take (e - (s + n)) (drop (s + n) bs) ≡ drop n held = held_after s e n bs (omega arith) ∙ ap (λ (w : List ℕ). drop n w) view in
     let split : held ≡ take n held ++ take (e - (s + n)) (drop (s + n) bs) =
     sym (take-append-drop n held) ∙ ap (λ (w : List ℕ). take n held ++ w) (sym rest) in
     record {
@@ -50,9 +48,9 @@ held_framed step s e n bs lent held old new same view order within limits took p
           (subst (λ (w : List ℕ). Frames old.limits came w n step new.reading.segments) (slice ∙ split) (frames came h));
     }
 
--- what was fed first, and then what was fed behind it
-fed_behind : (xs ys : List ℕ) (a b c : Decoding) → Feeds xs a b → Feeds ys b c → Feeds (xs ++ ys) a c
-fed_behind xs ys a b c first then =
+-- what was fed first, and then what was fed after it
+fed_after : (xs ys : List ℕ) (a b c : Decoding) → Feeds xs a b → Feeds ys b c → Feeds (xs ++ ys) a c
+fed_after xs ys a b c first then =
     record {
       limits = then.limits ∙ first.limits;
       took = λ came h. subst (λ (w : List ℕ). Took c w) (append_assoc came xs ys) (then.took (came ++ xs) (first.took came h));
@@ -63,18 +61,18 @@ regroup : (came xs ys rest : List ℕ) → (came ++ xs) ++ (ys ++ rest) ≡ came
 regroup came xs ys rest = append_assoc came xs (ys ++ rest) ∙ ap (λ (w : List ℕ). came ++ w) (sym (append_assoc xs ys rest))
 
 -- what the bytes say doesn't depend on when they came
-framed_behind : (limits : Limits) (came xs ys rest : List ℕ) (step : Step) (segments : List Segment) → Frames limits (came ++ xs) (ys ++ rest) (length ys) step segments
+framed_after : (limits : Limits) (came xs ys rest : List ℕ) (step : Step) (segments : List Segment) → Frames limits (came ++ xs) (ys ++ rest) (length ys) step segments
     → Frames limits came ((xs ++ ys) ++ rest) (length (xs ++ ys)) step segments
-framed_behind limits came xs ys rest steps.More segments h = (
+framed_after limits came xs ys rest steps.More segments h = (
   omega (arith, h.0, length-append xs ys, length-append ys rest, length-append (xs ++ ys) rest),
   subst (λ (w : List ℕ). IsUnfinished limits w) (regroup came xs ys rest) h.1,
 )
-framed_behind limits came xs ys rest steps.Message segments h =
+framed_after limits came xs ys rest steps.Message segments h =
     let from : (came ++ xs) ++ take (length ys) (ys ++ rest) ≡ came ++ (xs ++ ys) =
     ap (λ (w : List ℕ). (came ++ xs) ++ w) (take-append_seam ys rest) ∙ append_assoc came xs ys in
     let to : came ++ (xs ++ ys) ≡ came ++ take (length (xs ++ ys)) ((xs ++ ys) ++ rest) = ap (λ (w : List ℕ). came ++ w) (sym (take-append_seam (xs ++ ys) rest)) in
     subst (λ (w : List ℕ). Spelt limits w segments) (from ∙ to) h
-framed_behind limits came xs ys rest (steps.Fault place reason) segments h =
+framed_after limits came xs ys rest (steps.Fault place reason) segments h =
     let at : length (came ++ xs) + length ys ≡ length came + length (xs ++ ys) = omega (arith, length-append came xs, length-append xs ys) in (
       subst (λ (k : ℕ). Broken limits (came ++ ((xs ++ ys) ++ rest)) k reason) at
           (subst (λ (w : List ℕ). Broken limits w (length (came ++ xs) + length ys) reason) (regroup came xs ys rest) h.0),
@@ -82,60 +80,60 @@ framed_behind limits came xs ys rest (steps.Fault place reason) segments h =
     )
 
 -- What a reader has passed on so far: the link gave bytes, and of what it held and these the decoder took all but what it holds.
-pub record Passes (held_old held_new : List ℕ) (taken_old taken_new left_old left_new : Option (List ℕ)) (old new : Decoding) : Type 0 where
+pub record Passes (old new : Stage) : Type 0 where
   pub gave : List ℕ
   pub fed : List ℕ
-  pub taken : Appends taken_old taken_new gave
-  pub left : Consumes left_old left_new gave
-  pub split : held_old ++ gave ≡ fed ++ held_new
-  pub feeds : Feeds fed old new
+  pub taken : Appends old.link.taken new.link.taken gave
+  pub left : Consumes old.link.left new.link.left gave
+  pub split : old.held ++ gave ≡ fed ++ new.held
+  pub feeds : Feeds fed old.decoder new.decoder
 
 -- before a call nothing flows
-pub nothing_passes : (held : List ℕ) (taken left : Option (List ℕ)) (d : Decoding) → d.taken ≤ 2 ^ 64 - 1 → Passes held held taken taken left left d d
-nothing_passes held taken left d within =
+pub nothing_passes : (s : Stage) → s.decoder.taken ≤ 2 ^ 64 - 1 → Passes s s
+nothing_passes s within =
     record {
       gave = [];
       fed = [];
-      taken = Appends-nil taken;
-      left = Consumes-nil left;
-      split = append-nil held;
-      feeds = record { limits = refl; took = λ came h. subst (λ (w : List ℕ). Took d w) (sym (append-nil came)) h; place = omega arith };
+      taken = Appends-nil s.link.taken;
+      left = Consumes-nil s.link.left;
+      split = append-nil s.held;
+      feeds = record { limits = refl; took = λ came h. subst (λ (w : List ℕ). Took s.decoder w) (sym (append-nil came)) h; place = omega arith };
     }
 
--- what the reader holds goes into the decoder, which then stands at an answer
-pub flows_on : (step : Step) (h0 h1 h2 : List ℕ) (t0 t1 l0 l1 : Option (List ℕ)) (a b c : Decoding) → Passes h0 h1 t0 t1 l0 l1 a b → FramesHeld step h1 h2 b c → Flows step h0 h2 t0 t1 l0 l1 a c
-flows_on step h0 h1 h2 t0 t1 l0 l1 a b c pass more =
+-- what the reader holds goes into the decoder, up to a message, a fault or its end
+pub flows_on : (step : Step) (s0 s1 : Stage) (h2 : List ℕ) (c : Decoding) → Passes s0 s1 → FramesHeld step s1.held h2 s1.decoder c → Flows step s0 (stage h2 s1.link c)
+flows_on step s0 s1 h2 c pass more =
     record {
       gave = pass.gave;
       fed = pass.fed ++ more.fed;
       taken = pass.taken;
       left = pass.left;
       split = pass.split ∙ ap (λ (w : List ℕ). pass.fed ++ w) more.split ∙ sym (append_assoc pass.fed more.fed h2);
-      feeds = fed_behind pass.fed more.fed a b c pass.feeds more.feeds;
-      frames = λ came h. framed_behind a.limits came pass.fed more.fed h2 step c.reading.segments
+      feeds = fed_after pass.fed more.fed s0.decoder s1.decoder c pass.feeds more.feeds;
+      frames = λ came h. framed_after s0.decoder.limits came pass.fed more.fed h2 step c.reading.segments
           (subst (λ (l : Limits). Frames l (came ++ pass.fed) (more.fed ++ h2) (length more.fed) step c.reading.segments) pass.feeds.limits
           (more.frames (came ++ pass.fed) (pass.feeds.took came h)));
     }
 
--- the link gives bytes behind what flowed
-pub flows_in : (step : Step) (h0 h1 h2 : List ℕ) (t0 t1 t2 l0 l1 l2 : Option (List ℕ)) (a b : Decoding) → Flows step h0 h1 t0 t1 l0 l1 a b → h1 ≡ [] → Appends t1 t2 h2 → Consumes l1 l2 h2
-    → Passes h0 h2 t0 t2 l0 l2 a b
-flows_in step h0 h1 h2 t0 t1 t2 l0 l1 l2 a b flow empty taken left =
+-- the link gives bytes after what flowed
+pub flows_in : (step : Step) (s0 s1 : Stage) (h2 : List ℕ) (r2 : Report) → Flows step s0 s1 → s1.held ≡ [] → Appends s1.link.taken r2.taken h2 → Consumes s1.link.left r2.left h2
+    → Passes s0 (stage h2 r2 s1.decoder)
+flows_in step s0 s1 h2 r2 flow empty taken left =
     record {
       gave = flow.gave ++ h2;
       fed = flow.fed;
-      taken = Appends-trans t0 t1 t2 flow.gave h2 flow.taken taken;
-      left = Consumes-trans l0 l1 l2 flow.gave h2 flow.left left;
-      split = sym (append_assoc h0 flow.gave h2) ∙ ap (λ (w : List ℕ). w ++ h2) (flow.split ∙ ap (λ (w : List ℕ). flow.fed ++ w) empty ∙ append-nil flow.fed);
+      taken = Appends-trans s0.link.taken s1.link.taken r2.taken flow.gave h2 flow.taken taken;
+      left = Consumes-trans s0.link.left s1.link.left r2.left flow.gave h2 flow.left left;
+      split = sym (append_assoc s0.held flow.gave h2) ∙ ap (λ (w : List ℕ). w ++ h2) (flow.split ∙ ap (λ (w : List ℕ). flow.fed ++ w) empty ∙ append-nil flow.fed);
       feeds = flow.feeds;
     }
 
 -- nothing more came
-pub flows_still : (step : Step) (h0 h1 h2 : List ℕ) (t0 t1 t2 l0 l1 l2 : Option (List ℕ)) (a b : Decoding) → Flows step h0 h1 t0 t1 l0 l1 a b → h1 ≡ [] → h2 ≡ [] → Appends t1 t2 h2 → Consumes l1 l2 h2
-    → Flows step h0 h2 t0 t2 l0 l2 a b
+pub flows_still : (step : Step) (s0 s1 : Stage) (h2 : List ℕ) (r2 : Report) → Flows step s0 s1 → s1.held ≡ [] → h2 ≡ [] → Appends s1.link.taken r2.taken h2 → Consumes s1.link.left r2.left h2
+    → Flows step s0 (stage h2 r2 s1.decoder)
 unfolding flows_in
-flows_still step h0 h1 h2 t0 t1 t2 l0 l1 l2 a b flow empty none taken left =
-    let all : Passes h0 h2 t0 t2 l0 l2 a b = flows_in step h0 h1 h2 t0 t1 t2 l0 l1 l2 a b flow empty taken left in
+flows_still step s0 s1 h2 r2 flow empty none taken left =
+    let all : Passes s0 (stage h2 r2 s1.decoder) = flows_in step s0 s1 h2 r2 flow empty taken left in
     record {
       gave = all.gave;
       fed = all.fed;
@@ -143,7 +141,7 @@ flows_still step h0 h1 h2 t0 t1 t2 l0 l1 l2 a b flow empty none taken left =
       left = all.left;
       split = all.split;
       feeds = all.feeds;
-      frames = λ came h. subst (λ (w : List ℕ). Frames a.limits came (flow.fed ++ w) (length flow.fed) step b.reading.segments) (empty ∙ sym none) (flow.frames came h);
+      frames = λ came h. subst (λ (w : List ℕ). Frames s0.decoder.limits came (flow.fed ++ w) (length flow.fed) step s1.decoder.reading.segments) (empty ∙ sym none) (flow.frames came h);
     }
 
 -- nothing was fed yet
@@ -161,7 +159,7 @@ held_on step h0 h1 h2 a b c first more =
     record {
       fed = first.fed ++ more.fed;
       split = first.split ∙ ap (λ (w : List ℕ). first.fed ++ w) more.split ∙ sym (append_assoc first.fed more.fed h2);
-      feeds = fed_behind first.fed more.fed a b c first.feeds more.feeds;
+      feeds = fed_after first.fed more.fed a b c first.feeds more.feeds;
     }
 
 -- the same where a read may have given bytes before
@@ -169,24 +167,7 @@ pub spends_on : (step : Step) (r0 r1 : ℕ) (h0 h1 h2 : List ℕ) (a b c : Decod
 spends_on step r0 r1 h0 h1 h2 a b c (inl fell) more = inl fell
 spends_on step r0 r1 h0 h1 h2 a b c (inr first) more = inr (held_on step h0 h1 h2 a b c first more)
 
--- a fault is told at the place that the decoder has taken
-pub fault_place : (phase : Phase) (taken place : ℕ) (reason : Reason) → steps.Fault place reason ≡ outcome_of phase taken → place ≡ taken
-fault_place Due taken place reason e = cc
-fault_place Text taken place reason e = cc
-fault_place LineStart taken place reason e = cc
-fault_place JsonEnd taken place reason e = cc
-fault_place BytesStart taken place reason e = cc
-fault_place ChunkDue taken place reason e = cc
-fault_place (Digits n v) taken place reason e = cc
-fault_place (Padding v) taken place reason e = cc
-fault_place (Data n) taken place reason e = cc
-fault_place DataEnd taken place reason e = cc
-fault_place BytesEnd taken place reason e = cc
-fault_place MessageEnd taken place reason e = cc
-fault_place Whole taken place reason e = cc
-fault_place (Stuck r) taken place reason e = cc
-
--- behind the link's end neither a message nor a fault stands
+-- at the link's end the decoder has neither a message nor a fault
 pub ends_more : (next : Next) (d : Decoding) → MatchesEnd next d → steps.More ≡ step_of next
 ends_more nexts.Ended d h = refl
 ends_more (nexts.Cut place) d h = refl

@@ -1,2 +1,7 @@
-pub mod Fronts
+pub mod Prefixes
 pub mod Flow
+pub mod Outcomes
+pub mod Reports
+pub mod Framings
+pub mod Sessions
+pub mod Transcripts

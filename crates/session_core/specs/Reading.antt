@@ -4,8 +4,13 @@ use Rattle.std.specs.Io.KnownBytes.{Appends, Consumes, IsAtEnd}
 use Rattle.doip_segment.specs.Decoding.{Decoding, Took, IsStanding, EndsBetween, Frames, outcome_of}
 use Rattle.doip_segment.specs.declared.outcome.Step.{Step}
 use Rattle.doip_segment.specs.declared.outcome.Step.TheVariants as steps
+use Rattle.session_core.specs.Report.{Report}
 use Rattle.session_core.specs.declared.reader.Next.{Next}
 use Rattle.session_core.specs.declared.reader.Next.TheVariants.{Message, Ended, Cut, Framing, ReadFault}
+
+-- What feeding no byte more to the decoder would return: a message, a fault, or that more bytes are needed.
+abbrev pub outcome : Decoding → Step
+outcome d = outcome_of d.reading.phase d.taken
 
 -- The decoder took these bytes more.
 pub record Feeds (fed : List ℕ) (old new : Decoding) : Type 0 where
@@ -13,56 +18,68 @@ pub record Feeds (fed : List ℕ) (old new : Decoding) : Type 0 where
   pub took : (came : List ℕ) → Took old came → Took new (came ++ fed)
   pub place : new.taken ≡ min (old.taken + length fed) (2 ^ 64 - 1)
 
--- The decoder took a front of what the reader held, and the reader holds the rest.
+-- The decoder took a prefix of what the reader held, and the reader holds the rest.
 pub record FeedsHeld (held_old held_new : List ℕ) (old new : Decoding) : Type 0 where
   pub fed : List ℕ
   pub split : held_old ≡ fed ++ held_new
   pub feeds : Feeds fed old new
 
--- The same, and what stands then is what the bytes say: those that came since the last message, and these behind them.
+-- The same, and the step is what the bytes say: those that came since the last message, and these after them.
 pub record FramesHeld (step : Step) (held_old held_new : List ℕ) (old new : Decoding) : Type 0 where
   pub fed : List ℕ
   pub split : held_old ≡ fed ++ held_new
   pub feeds : Feeds fed old new
   pub frames : (came : List ℕ) → Took old came → Frames old.limits came (fed ++ held_new) (length fed) step new.reading.segments
 
--- what stands behind an answer
+-- what the decoder reports at each result
 abbrev pub step_of : Next → Step
 step_of Message = steps.Message
 step_of (Framing place reason) = steps.Fault place reason
 step_of _ = steps.More
 
--- The link gave bytes; of what the reader held followed by these the decoder took a front, and the reader holds the rest.
--- What stands then is what the bytes say.
-pub record Flows (step : Step) (held_old held_new : List ℕ) (taken_old taken_new left_old left_new : Option (List ℕ)) (old new : Decoding) : Type 0 where
+-- Where bytes are on their way: those that the reader holds, what the link reports, and what the decoder has read.
+pub record Stage : Type 0 where
+  pub held : List ℕ
+  pub link : Report
+  pub decoder : Decoding
+
+-- the stage with these parts
+abbrev pub stage : List ℕ → Report → Decoding → Stage
+stage held link decoder = record { held = held; link = link; decoder = decoder }
+
+-- The link gave bytes; of what the reader held followed by these the decoder took a prefix, and the reader holds the rest.
+-- The step is what the bytes say.
+pub record Flows (step : Step) (old new : Stage) : Type 0 where
   pub gave : List ℕ
   pub fed : List ℕ
-  pub taken : Appends taken_old taken_new gave
-  pub left : Consumes left_old left_new gave
-  pub split : held_old ++ gave ≡ fed ++ held_new
-  pub feeds : Feeds fed old new
-  pub frames : (came : List ℕ) → Took old came → Frames old.limits came (fed ++ held_new) (length fed) step new.reading.segments
+  pub taken : Appends old.link.taken new.link.taken gave
+  pub left : Consumes old.link.left new.link.left gave
+  pub split : old.held ++ gave ≡ fed ++ new.held
+  pub feeds : Feeds fed old.decoder new.decoder
+  pub frames : (came : List ℕ) → Took old.decoder came
+      → Frames old.decoder.limits came (fed ++ new.held) (length fed) step new.decoder.reading.segments
 
--- The link has ended, the decoder has taken all that it gave, and neither a message nor a fault stands.
+-- The link is at its end, the decoder has taken all that it gave, and has neither a finished message nor a fault.
 pub record IsSpent (held : List ℕ) (left : Option (List ℕ)) (decoder : Decoding) : Type 0 where
   pub nothing_held : held ≡ []
   pub at_end : IsAtEnd left
-  pub none : outcome_of decoder.reading.phase decoder.taken ≡ steps.More
+  pub none : outcome decoder ≡ steps.More
 
--- What the reader, the link and the decoder are behind each answer.
-abbrev pub Answers : Next → List ℕ → Option (List ℕ) → Decoding → Type 0
-Answers Message held left decoder = IsStanding decoder
-Answers (Framing place reason) held left decoder = place ≡ decoder.taken
-Answers Ended held left decoder = IsSpent held left decoder × ((came : List ℕ) → Took decoder came → EndsBetween decoder came)
-Answers (Cut place) held left decoder = IsSpent held left decoder × (place ≡ decoder.taken) × ((came : List ℕ) → Took decoder came → ¬ EndsBetween decoder came)
-Answers ReadFault held left decoder = held ≡ []
+-- What each result of `next` says of the reader, the link and the decoder.
+abbrev pub Means : Next → List ℕ → Option (List ℕ) → Decoding → Type 0
+Means Message held left decoder = IsStanding decoder
+Means (Framing place reason) held left decoder = place ≡ decoder.taken
+Means Ended held left decoder = IsSpent held left decoder × ((came : List ℕ) → Took decoder came → EndsBetween decoder came)
+Means (Cut place) held left decoder =
+    IsSpent held left decoder × (place ≡ decoder.taken) × ((came : List ℕ) → Took decoder came → ¬ EndsBetween decoder came)
+Means ReadFault held left decoder = held ≡ []
 
--- a fault of the link is why, for one answer alone
+-- a read of the link failed
 abbrev pub IsReadFault : Next → Type 0
 IsReadFault ReadFault = Unit {0}
 IsReadFault _ = ⊥
 
--- the link's end as an answer
+-- what the link's end is: between two messages, or inside one
 abbrev pub MatchesEnd : Next → Decoding → Type 0
 MatchesEnd Ended decoder = (came : List ℕ) → Took decoder came → EndsBetween decoder came
 MatchesEnd (Cut place) decoder = (place ≡ decoder.taken) × ((came : List ℕ) → Took decoder came → ¬ EndsBetween decoder came)

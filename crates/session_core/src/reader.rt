@@ -3,8 +3,7 @@ ghost use Rattle.std.specs.Prelude.{◌≡◌, ◌≤◌, ◌<◌, ◌⊎◌, []
 ghost use Rattle.std.specs.Io.KnownBytes.{Keeps, Appends, Consumes, IsAtEnd};
 ghost use Rattle.link_core.specs.Causes.{HasCause, Rose};
 ghost use Rattle.link_core.specs.Link.{Spends};
-ghost use Rattle.doip_segment.specs.Decoding.{outcome_of};
-ghost use Rattle.session_core.specs.Reading.{MatchesEnd};
+ghost use Rattle.session_core.specs.Reading.{MatchesEnd, outcome};
 
 use doip_segment::{Decoder, End, Reason, Step};
 use link_core::{Failed, Link};
@@ -14,16 +13,16 @@ use std::marker::Model;
 /// How many bytes a read may give.
 const ROOM: usize = 65_536;
 
-/// What a link's next bytes are.
+/// What the next bytes of a link are.
 #[derive(Clone, Copy, Debug, PartialEq, Eq)]
 pub enum Next {
-    /// A message, which stands in the decoder.
+    /// A message, which is waiting in the decoder.
     Message,
     /// The link's end, between messages.
     Ended,
-    /// The link's end inside a message, behind so many bytes of the session.
+    /// The link's end inside a message, after this many bytes of the session.
     Cut { place: u64 },
-    /// Bytes that frame no message, up to and with the one at this place of the session.
+    /// Bytes that frame no message: the byte at this place of the session is the first that is wrong.
     Framing { place: u64, reason: Reason },
     /// A read of the link failed.
     ReadFault,
@@ -48,7 +47,8 @@ impl Model for Reader {
 }
 
 impl Reader {
-    ghost use Rattle.session_core.specs.Reading.{FeedsHeld, FramesHeld, Flows, step_of, Answers, IsReadFault};
+    ghost use Rattle.session_core.specs.Reading.{FeedsHeld, FramesHeld, Flows, stage, step_of, Means, IsReadFault};
+    ghost use Rattle.session_core.specs.Report.{report_of};
 
     /// A reader that holds nothing. It takes all memory that it will ever need.
     pub fn new(alloc: Global) -> Result<Reader, AllocError>
@@ -62,7 +62,7 @@ impl Reader {
         })
     }
 
-    /// Forgets what is left of an old link.
+    /// Forgets the bytes of an old link.
     pub fn restart(&mut self)
         ensures { self.new ≡ [] }
     {
@@ -70,10 +70,10 @@ impl Reader {
         self.end = 0;
     }
 
-    // Feeds the decoder a front of what the reader holds: all, where it then stands at neither a message nor a fault.
+    // Feeds the decoder a prefix of what the reader holds: all of it, unless a message or a fault comes first.
     fn feed_held(&mut self, decoder: &mut Decoder) -> Step
         ensures fed { FramesHeld result self.old self.new decoder.old decoder.new }
-        ensures outcome { result ≡ outcome_of decoder.new.reading.phase decoder.new.taken }
+        ensures outcome { result ≡ outcome decoder.new }
         ensures more { result ≡ Step.More → self.new ≡ [] }
         ensures bound { length self.new ≤ 65536 }
     {
@@ -103,14 +103,15 @@ impl Reader {
     }
 
     /// Feeds the decoder what the reader holds and then what the link gives, up to the end of the first message, a
-    /// framing fault, the link's end or a fault of the link. Where a message stands already it answers that. It takes no
-    /// memory.
+    /// framing fault, the link's end or a fault of the link. While a finished message is waiting, it returns `Message`
+    /// and reads nothing. It takes no memory.
     ///
     /// # Errors
-    /// `ReadFault` comes only where the link's count of faults rose in this call.
+    /// Returns `ReadFault` only if the link's number of faults rose during this call.
     pub fn next<L: Link>(&mut self, link: &mut L, decoder: &mut Decoder) -> Next
-        ensures flow { Flows (step_of result) self.old self.new (L.taken link.old) (L.taken link.new) (L.left link.old) (L.left link.new) decoder.old decoder.new }
-        ensures answer { Answers result self.new (L.left link.new) decoder.new }
+        ensures flow { Flows (step_of result) (stage self.old (report_of L.Link link.old) decoder.old)
+            (stage self.new (report_of L.Link link.new) decoder.new) }
+        ensures means { Means result self.new (L.left link.new) decoder.new }
         ensures later { L.faults link.old ≤ L.faults link.new }
         ensures cause { IsReadFault result → Rose (L.faults link.old) (L.faults link.new) }
         ensures reads { L.reads link.new ≤ L.reads link.old }
@@ -140,7 +141,7 @@ impl Reader {
     }
 }
 
-// What the link's end is.
+// Whether the link's end is between messages, or inside one.
 fn at_end(decoder: &Decoder) -> Next
     ensures { MatchesEnd result decoder.now }
 {

@@ -1,4 +1,4 @@
-//! Saying bytes on a link.
+//! Writing bytes on a link.
 ghost use Rattle.std.specs.Prelude.{◌≡◌, ◌≤◌};
 ghost use Rattle.std.specs.Io.KnownBytes.{Keeps};
 ghost use Rattle.link_core.specs.Causes.{HasCause};
@@ -6,14 +6,14 @@ ghost use Rattle.session_core.specs.Saying.{Says};
 
 use link_core::{Failed, Link};
 
-/// A write of the link failed. At most a front of the bytes was written.
+/// A write of the link failed. At most a prefix of the bytes was written.
 #[derive(Clone, Copy, Debug, PartialEq, Eq)]
 pub struct WriteFault;
 
-/// Writes the whole of the bytes, in as few writes as the link takes. It takes no memory.
+/// Writes all of the bytes, in as few writes as the link takes. It takes no memory.
 ///
 /// # Errors
-/// `WriteFault` where a write failed and the link's count of faults rose. A front of the bytes was written then.
+/// Returns `WriteFault` only if the link's number of faults rose during this call. Then a prefix of the bytes was written.
 pub fn say<L: Link>(link: &mut L, bytes: &[u8]) -> Result<(), WriteFault>
     ensures written { Says (L.written link.old) (L.written link.new) bytes.now result }
     ensures cause { HasCause (L.faults link.old) (L.faults link.new) result }

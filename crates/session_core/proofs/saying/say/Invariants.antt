@@ -2,7 +2,7 @@ use Rattle.std.proofs.Common.{length, take, ◌-◌, ◌≡◌, ◌≤◌}
 use Rattle.std.specs.Io.KnownBytes.{Keeps, Appends}
 use Rattle.session_core.proofs.saying.say.Given as goal
 
--- a front of the bytes was written, and nothing else has changed
+-- a prefix of the bytes was written, and nothing else has changed
 abbrev pub invariant-loop-said : goal.invariant-loop-said
 invariant-loop-said g l = record {
   within : l.said ≤ length l.bytes;

@@ -1,15 +1,17 @@
 use Rattle.std.proofs.Common.{◌≡◌, ◌<◌, [], arith, refl, subst, inl, inr}
 use Rattle.std.proofs.lemmas.Grind.{common_steps}
 use Rattle.std.proofs.KnownBytes.{Keeps-refl, Keeps-trans}
-use Rattle.session_core.proofs.Flow.{nothing_passes, flows_on, flows_in, flows_still, nothing_fed, spends_on, fault_place, ends_more}
+use Rattle.session_core.proofs.Flow.{nothing_passes, flows_on, flows_in, flows_still, nothing_fed, spends_on, ends_more}
+use Rattle.session_core.proofs.Outcomes.{fault_place}
 use Rattle.doip_segment.specs.declared.outcome.Step.{Step}
-use Rattle.session_core.specs.Reading.{Flows}
+use Rattle.session_core.specs.Reading.{Flows, stage}
+use Rattle.session_core.specs.Report.{report_of}
 use Rattle.session_core.proofs.reader.Reader.next.Goals as goal
 
 pub loop-place-init : goal.loop-place-init
 loop-place-init g c =
     record {
-      passed = nothing_passes _ _ _ _ (omega (arith, c.taken.ensures));
+      passed = nothing_passes _ (omega (arith, c.taken.ensures));
       spends = inr (nothing_fed _ _ (omega (arith, c.taken.ensures)));
       later = omega arith;
       reads = omega arith;
@@ -18,13 +20,13 @@ loop-place-init g c =
     }
 
 pub returns-in-Message-clause-flow : goal.returns-in-Message-clause-flow
-returns-in-Message-clause-flow g c = flows_on _ _ _ _ _ _ _ _ _ _ _ c.loop-place.invariant.passed c.in-Message.ensures.fed
+returns-in-Message-clause-flow g c = flows_on _ _ _ _ _ c.loop-place.invariant.passed c.in-Message.ensures.fed
 
 pub returns-in-Fault-clause-flow : goal.returns-in-Fault-clause-flow
-returns-in-Fault-clause-flow g c = flows_on _ _ _ _ _ _ _ _ _ _ _ c.loop-place.invariant.passed c.in-Fault.ensures.fed
+returns-in-Fault-clause-flow g c = flows_on _ _ _ _ _ c.loop-place.invariant.passed c.in-Fault.ensures.fed
 
-pub returns-in-Fault-clause-answer : goal.returns-in-Fault-clause-answer
-returns-in-Fault-clause-answer g c = fault_place _ _ _ _ c.in-Fault.ensures.outcome
+pub returns-in-Fault-clause-means : goal.returns-in-Fault-clause-means
+returns-in-Fault-clause-means g c = fault_place c.feed_held.new.decoder _ _ c.in-Fault.ensures.outcome
 
 pub returns-in-Message-clause-spends : goal.returns-in-Message-clause-spends
 returns-in-Message-clause-spends g c = λ _. spends_on _ _ _ _ _ _ _ _ _ c.loop-place.invariant.spends c.in-Message.ensures.fed
@@ -32,20 +34,20 @@ returns-in-Message-clause-spends g c = λ _. spends_on _ _ _ _ _ _ _ _ _ c.loop-
 pub returns-in-Ok-eq0-clause-flow : goal.returns-in-Ok-eq0-clause-flow
 returns-in-Ok-eq0-clause-flow g c =
     let none : c.fill.new.self ≡ [] = grind (arith, common_steps) in
-    subst (λ (s : Step). Flows s c.args.self.now c.fill.new.self (g.L.Link.taken c.args.link.now) (g.L.Link.taken c.fill.new.link) (g.L.Link.left c.args.link.now) (g.L.Link.left c.fill.new.link)
-    c.args.decoder.now c.feed_held.new.decoder) (ends_more _ _ c.at_end.ensures)
-    (flows_still _ _ _ _ _ _ _ _ _ _ _ _ (flows_on _ _ _ _ _ _ _ _ _ _ _ c.loop-place.invariant.passed c.in-More.ensures.fed) (c.in-More.ensures.more refl) none
+    subst (λ (s : Step). Flows s (stage c.args.self.now (report_of g.L.Link c.args.link.now) c.args.decoder.now)
+    (stage c.fill.new.self (report_of g.L.Link c.fill.new.link) c.feed_held.new.decoder)) (ends_more _ _ c.at_end.ensures)
+    (flows_still _ _ _ _ _ (flows_on _ _ _ _ _ c.loop-place.invariant.passed c.in-More.ensures.fed) (c.in-More.ensures.more refl) none
     c.fill.ensures.taken c.fill.ensures.left)
 
 pub returns-in-Err-clause-flow : goal.returns-in-Err-clause-flow
 returns-in-Err-clause-flow g c =
-    flows_still _ _ _ _ _ _ _ _ _ _ _ _ (flows_on _ _ _ _ _ _ _ _ _ _ _ c.loop-place.invariant.passed c.in-More.ensures.fed) (c.in-More.ensures.more refl) c.in-Err.ensures.failed
+    flows_still _ _ _ _ _ (flows_on _ _ _ _ _ c.loop-place.invariant.passed c.in-More.ensures.fed) (c.in-More.ensures.more refl) c.in-Err.ensures.failed
     c.fill.ensures.taken c.fill.ensures.left
 
 pub loop-place-preserved : goal.loop-place-preserved
 loop-place-preserved g c =
     record {
-      passed = flows_in _ _ _ _ _ _ _ _ _ _ _ _ (flows_on _ _ _ _ _ _ _ _ _ _ _ c.loop-place.invariant.passed c.in-More.ensures.fed) (c.in-More.ensures.more refl)
+      passed = flows_in _ _ _ _ _ (flows_on _ _ _ _ _ c.loop-place.invariant.passed c.in-More.ensures.fed) (c.in-More.ensures.more refl)
           c.fill.ensures.taken c.fill.ensures.left;
       spends = let some : 0 < c.in-Ok.field-0 = omega (arith, c.in-Ok.field-0-test.1) in inl (omega (arith, c.in-Ok.ensures.reads.1 some));
       later = omega (arith, c.fill.ensures.cause.later);

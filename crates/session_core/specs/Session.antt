@@ -1,0 +1,114 @@
+-- One session of a link: what was read, what was replied, and how it ended. This project's own.
+use Rattle.std.specs.Prelude.{◌≡◌, ◌+◌, ◌-◌, ◌^◌, ◌⊎◌, ℕ, min, List, [], ◌∷◌, ◌++◌, length, take, None, Some, codes}
+use Rattle.std.specs.List.{AllByRecursion}
+use Rattle.std.specs.Io.KnownBytes.{IsAtEnd}
+use Rattle.link_core.specs.Causes.{Rose}
+use Rattle.doip_segment.specs.declared.outcome.Limits.{Limits}
+use Rattle.doip_segment.specs.declared.outcome.Reason.{Reason}
+use Rattle.doip_segment.specs.Segments.{Segment}
+use Rattle.doip_segment.specs.Grammar.{IsWhite}
+use Rattle.doip_segment.specs.Framing.{Framed, Broken}
+use Rattle.doip_message.specs.declared.response.Status.TheVariants.{Invalid}
+use Rattle.doip_message.specs.Reply.{refusal, reply_text}
+use Rattle.session_core.specs.Pairs.{Pair, messages_of, texts_of}
+use Rattle.session_core.specs.Report.{Report, Moves}
+use Rattle.session_core.specs.declared.end.SessionEnd.{SessionEnd}
+use Rattle.session_core.specs.declared.end.SessionEnd.TheVariants.{Ended, Cut, Framing, ReadFault, WriteFault}
+
+-- a place as a number of 64 bits reports it: at most the greatest such number
+abbrev pub saturated : ℕ → ℕ
+saturated place = min place (2 ^ 64 - 1)
+
+-- the last text of a session whose bytes frame no message
+abbrev pub framing_text : List ℕ
+framing_text = reply_text (refusal None Invalid (codes "framing fault"))
+
+-- the bytes break nowhere
+abbrev pub IsUnbroken : Limits → List ℕ → Type 0
+IsUnbroken limits bytes = (place : ℕ) (reason : Reason) → Broken limits bytes place reason → ⊥
+
+-- What a session read, the messages that frame it and the rest that begins with no message; its replies, and what it wrote.
+pub record Exchange : Type 0 where
+  pub read : List ℕ
+  pub messages : List (List Segment)
+  pub rest : List ℕ
+  pub pairs : List Pair
+  pub written : List ℕ
+
+-- Each message has its reply, in order. The texts of the replies were written, and then this last text.
+pub record RepliesToAll (x : Exchange) (last : List ℕ) : Type 0 where
+  pub each : messages_of x.pairs ≡ x.messages
+  pub wrote : x.written ≡ texts_of x.pairs ++ last
+
+-- The write of a reply failed: the texts of the replies were written, and the last of them may lack a suffix.
+-- Later messages have no reply.
+pub record ReplyFailed (x : Exchange) : Type 0 where
+  pub before : List Pair
+  pub last : Pair
+  pub count : ℕ
+  pub later : List (List Segment)
+  pub are : x.pairs ≡ before ++ last ∷ []
+  pub each : x.messages ≡ messages_of x.pairs ++ later
+  pub wrote : x.written ≡ texts_of before ++ take count last.text
+
+-- The write of the framing text failed: all replies were written, and the framing text may lack a suffix.
+pub record FramingFailed (limits : Limits) (x : Exchange) : Type 0 where
+  pub place : ℕ
+  pub reason : Reason
+  pub count : ℕ
+  pub breaks : Broken limits x.rest place reason
+  pub all : RepliesToAll x (take count framing_text)
+
+-- What holds at each end of a session. Its link may be at its end, and the link's number of faults may have risen.
+abbrev pub EndsSo : Limits → Exchange → Type 0 → Type 0 → SessionEnd → Type 0
+EndsSo limits x at_end rose Ended =
+    RepliesToAll x [] × at_end × AllByRecursion IsWhite x.rest × IsUnbroken limits x.rest
+EndsSo limits x at_end rose (Cut place) =
+    RepliesToAll x [] × at_end × ¬ AllByRecursion IsWhite x.rest × IsUnbroken limits x.rest
+    × (place ≡ saturated (length x.read))
+EndsSo limits x at_end rose (Framing place reason) =
+    RepliesToAll x framing_text
+    × (p : ℕ) × Broken limits x.rest p reason × (q : ℕ) × (q + length x.rest ≡ length x.read) × (place ≡ saturated (q + p))
+EndsSo limits x at_end rose ReadFault =
+    RepliesToAll x [] × IsUnbroken limits x.rest × rose
+EndsSo limits x at_end rose WriteFault =
+    rose × (ReplyFailed x ⊎ FramingFailed limits x)
+
+-- What is known of a session whose link reports its bytes: those that it read, those that it left unread and those that it
+-- wrote; its replies; the link's number of faults before and after; and its end.
+pub record Transcript : Type 0 where
+  pub read : List ℕ
+  pub unread : List ℕ
+  pub written : List ℕ
+  pub pairs : List Pair
+  pub before : ℕ
+  pub after : ℕ
+  pub end : SessionEnd
+
+-- A session: the bytes read are messages that frame them and a rest, and it replied and ended as its end says.
+pub record Session (limits : Limits) (t : Transcript) : Type 0 where
+  pub messages : List (List Segment)
+  pub rest : List ℕ
+  pub framed : Framed limits t.read messages rest
+  pub ends : EndsSo limits
+      (record { read = t.read; messages = messages; rest = rest; pairs = t.pairs; written = t.written })
+      (t.unread ≡ []) (Rose t.before t.after) t.end
+
+-- The same for any link, also one that reports no bytes: its pairs are new, and the bytes were read and written on the link.
+pub record Served (limits : Limits) (old new : List Pair) (before after : Report) (end : SessionEnd) : Type 0 where
+  pub exchange : Exchange
+  pub pairs : new ≡ old ++ exchange.pairs
+  pub moved : Moves before after exchange.read exchange.written
+  pub framed : Framed limits exchange.read exchange.messages exchange.rest
+  pub ends : EndsSo limits exchange (IsAtEnd after.left) (Rose before.faults after.faults) end
+
+-- The transcript of a session on a link that reported the bytes that were left to read when it began.
+pub record IsTranscript (old new : List Pair) (before after : Report) (end : SessionEnd) (t : Transcript) : Type 0 where
+  pub pairs : new ≡ old ++ t.pairs
+  pub input : before.left ≡ Some (t.read ++ t.unread)
+  pub left : after.left ≡ Some t.unread
+  pub taken : (bytes : List ℕ) → before.taken ≡ Some bytes → after.taken ≡ Some (bytes ++ t.read)
+  pub written : (bytes : List ℕ) → before.written ≡ Some bytes → after.written ≡ Some (bytes ++ t.written)
+  pub faults_before : t.before ≡ before.faults
+  pub faults_after : t.after ≡ after.faults
+  pub end_is : t.end ≡ end
