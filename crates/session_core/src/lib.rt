@@ -8,7 +8,8 @@
 //! `session` says what was read and written and which `SessionEnd` comes when; `a_session_that_reports` turns it into
 //! `Session`, for a link that reports its bytes. `cuts_do_not_matter`: the cuts between reads change nothing.
 //!
-//! `next`, `say` and `serve` take no memory, but for the responder's own. That a link gives bytes at all is not promised.
+//! `next`, `say` and `serve` take no memory, but for the responder's own. That a link gives bytes at all is not
+//! promised.
 #![tactic(auto)]
 
 mod end;
