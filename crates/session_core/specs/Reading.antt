@@ -29,7 +29,8 @@ pub record FramesHeld (step : Step) (held_old held_new : List ℕ) (old new : De
   pub fed : List ℕ
   pub split : held_old ≡ fed ++ held_new
   pub feeds : Feeds fed old new
-  pub frames : (came : List ℕ) → Took old came → Frames old.limits came (fed ++ held_new) (length fed) step new.reading.segments
+  pub frames : (came : List ℕ) → Took old came
+      → Frames old.limits came (fed ++ held_new) (length fed) step new.reading.segments
 
 -- what the decoder reports at each result
 abbrev pub step_of : Next → Step
@@ -47,8 +48,8 @@ pub record Stage : Type 0 where
 abbrev pub stage : List ℕ → Report → Decoding → Stage
 stage held link decoder = record { held = held; link = link; decoder = decoder }
 
--- The link gave bytes; of what the reader held followed by these the decoder took a prefix, and the reader holds the rest.
--- The step is what the bytes say.
+-- The link gave bytes; of what the reader held followed by these the decoder took a prefix, and the reader holds the
+-- rest. The step is what the bytes say.
 pub record Flows (step : Step) (old new : Stage) : Type 0 where
   pub gave : List ℕ
   pub fed : List ℕ
@@ -69,9 +70,11 @@ pub record IsSpent (held : List ℕ) (left : Option (List ℕ)) (decoder : Decod
 abbrev pub Means : Next → List ℕ → Option (List ℕ) → Decoding → Type 0
 Means Message held left decoder = IsStanding decoder
 Means (Framing place reason) held left decoder = place ≡ decoder.taken
-Means Ended held left decoder = IsSpent held left decoder × ((came : List ℕ) → Took decoder came → EndsBetween decoder came)
+Means Ended held left decoder =
+    IsSpent held left decoder × ((came : List ℕ) → Took decoder came → EndsBetween decoder came)
 Means (Cut place) held left decoder =
-    IsSpent held left decoder × (place ≡ decoder.taken) × ((came : List ℕ) → Took decoder came → ¬ EndsBetween decoder came)
+    IsSpent held left decoder × (place ≡ decoder.taken)
+    × ((came : List ℕ) → Took decoder came → ¬ EndsBetween decoder came)
 Means ReadFault held left decoder = held ≡ []
 
 -- a read of the link failed
@@ -82,5 +85,6 @@ IsReadFault _ = ⊥
 -- what the link's end is: between two messages, or inside one
 abbrev pub MatchesEnd : Next → Decoding → Type 0
 MatchesEnd Ended decoder = (came : List ℕ) → Took decoder came → EndsBetween decoder came
-MatchesEnd (Cut place) decoder = (place ≡ decoder.taken) × ((came : List ℕ) → Took decoder came → ¬ EndsBetween decoder came)
+MatchesEnd (Cut place) decoder =
+    (place ≡ decoder.taken) × ((came : List ℕ) → Took decoder came → ¬ EndsBetween decoder came)
 MatchesEnd _ decoder = ⊥

@@ -3,7 +3,7 @@ use Rattle.std.specs.Prelude.{◌≤◌, ℕ, List, Option}
 use Rattle.std.specs.Io.KnownBytes.{Appends, Consumes}
 use Rattle.link_core.specs.declared.link.Link.{Ghosts}
 
--- The bytes that were read from a link, those left to read and those written, where it reports them; its number of faults.
+-- The bytes that were read from a link, those left to read and those written, if it reports them; its number of faults.
 pub record Report : Type 0 where
   pub taken : Option (List ℕ)
   pub left : Option (List ℕ)

@@ -27,7 +27,7 @@ framing_text = reply_text (refusal None Invalid (codes "framing fault"))
 abbrev pub IsUnbroken : Limits → List ℕ → Type 0
 IsUnbroken limits bytes = (place : ℕ) (reason : Reason) → Broken limits bytes place reason → ⊥
 
--- What a session read, the messages that frame it and the rest that begins with no message; its replies, and what it wrote.
+-- What a session read, the messages that frame it and the rest, which begins with none; its replies, and what it wrote.
 pub record Exchange : Type 0 where
   pub read : List ℕ
   pub messages : List (List Segment)
@@ -59,7 +59,7 @@ pub record FramingFailed (limits : Limits) (x : Exchange) : Type 0 where
   pub breaks : Broken limits x.rest place reason
   pub all : RepliesToAll x (take count framing_text)
 
--- What holds at each end of a session. Its link may be at its end, and the link's number of faults may have risen.
+-- What holds at each end of a session: `at_end` says that its link is at its end, and `rose` that the link had a fault.
 abbrev pub EndsSo : Limits → Exchange → Type 0 → Type 0 → SessionEnd → Type 0
 EndsSo limits x at_end rose Ended =
     RepliesToAll x [] × at_end × AllByRecursion IsWhite x.rest × IsUnbroken limits x.rest
@@ -68,14 +68,15 @@ EndsSo limits x at_end rose (Cut place) =
     × (place ≡ saturated (length x.read))
 EndsSo limits x at_end rose (Framing place reason) =
     RepliesToAll x framing_text
-    × (p : ℕ) × Broken limits x.rest p reason × (q : ℕ) × (q + length x.rest ≡ length x.read) × (place ≡ saturated (q + p))
+    × (p : ℕ) × Broken limits x.rest p reason
+    × (q : ℕ) × (q + length x.rest ≡ length x.read) × (place ≡ saturated (q + p))
 EndsSo limits x at_end rose ReadFault =
     RepliesToAll x [] × IsUnbroken limits x.rest × rose
 EndsSo limits x at_end rose WriteFault =
     rose × (ReplyFailed x ⊎ FramingFailed limits x)
 
--- What is known of a session whose link reports its bytes: those that it read, those that it left unread and those that it
--- wrote; its replies; the link's number of faults before and after; and its end.
+-- What is known of a session whose link reports its bytes: those that it read, those that it left unread and those that
+-- it wrote; its replies; the link's number of faults before and after; and its end.
 pub record Transcript : Type 0 where
   pub read : List ℕ
   pub unread : List ℕ
@@ -94,7 +95,7 @@ pub record Session (limits : Limits) (t : Transcript) : Type 0 where
       (record { read = t.read; messages = messages; rest = rest; pairs = t.pairs; written = t.written })
       (t.unread ≡ []) (Rose t.before t.after) t.end
 
--- The same for any link, also one that reports no bytes: its pairs are new, and the bytes were read and written on the link.
+-- The same for any link, also one that reports no bytes: its pairs are new, and the link gave and took the bytes.
 pub record Served (limits : Limits) (old new : List Pair) (before after : Report) (end : SessionEnd) : Type 0 where
   pub exchange : Exchange
   pub pairs : new ≡ old ++ exchange.pairs

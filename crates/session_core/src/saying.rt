@@ -13,7 +13,7 @@ pub struct WriteFault;
 /// Writes all of the bytes, in as few writes as the link takes. It takes no memory.
 ///
 /// # Errors
-/// Returns `WriteFault` only if the link's number of faults rose during this call. Then a prefix of the bytes was written.
+/// Returns `WriteFault` only if the link's number of faults rose during this call. Then a prefix was written.
 pub fn say<L: Link>(link: &mut L, bytes: &[u8]) -> Result<(), WriteFault>
     ensures written { Says (L.written link.old) (L.written link.new) bytes.now result }
     ensures cause { HasCause (L.faults link.old) (L.faults link.new) result }

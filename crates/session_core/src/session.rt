@@ -29,9 +29,9 @@ fn say_reply<L: Link>(link: &mut L, buffer: &Vec<u8>, reply: Reply) -> Result<()
     }
 }
 
-/// Serves one session: reads each message of the link, has the responder reply to it and writes the reply before it reads
-/// on. Where the bytes frame no message, it writes the framing text and ends. It takes no memory but the responder's, and
-/// it doesn't close the link.
+/// Serves one session: reads each message of the link, has the responder reply to it, and writes the reply before it
+/// reads on. Where the bytes frame no message, it writes the framing text and ends. It takes no memory but the
+/// responder's, and it doesn't close the link.
 ///
 /// Reader and decoder are given as they are after `restart`; decoder and buffer come back, for the next session.
 pub fn serve<L: Link, P: Responder>(

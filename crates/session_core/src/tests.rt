@@ -1,7 +1,14 @@
 //! Sessions over memory, each call once with ample memory.
+mod echo;
+mod patient;
+
 use super::*;
-use doip_segment::{Decoder, Limits};
-use link_core::MemoryLink;
+use doip_message::FRAMING_TEXT;
+use doip_segment::{Decoder, Limits, Reason};
+use echo::Echo;
+use link_core::{Link, MemoryLink};
+use patient::Patient;
+use std::alloc::{AllocError, Global};
 use std::test::Fail;
 
 const TWO: &[u8] = b"{}\n#\n#\n @\n3\na\n#\n#\n#\n ";
@@ -52,7 +59,7 @@ fn a_session_ends_cut_framing_or_by_a_fault(rt: HostRuntime) -> Result<(), Fail>
     let mut broken = MemoryLink::of(alloc, b"#x")?;
     let fault = Next::Framing {
         place: 2,
-        reason: doip_segment::Reason::Marker,
+        reason: Reason::Marker,
     };
     assert_eq!(rt; reader.next(&mut broken, &mut decoder), fault);
     reader.restart();
@@ -65,7 +72,7 @@ fn a_session_ends_cut_framing_or_by_a_fault(rt: HostRuntime) -> Result<(), Fail>
 }
 
 #[test]
-fn all_is_said_one_byte_at_a_time(rt: HostRuntime) -> Result<(), Fail> {
+fn all_is_written_one_byte_at_a_time(rt: HostRuntime) -> Result<(), Fail> {
     let alloc = rt.alloc();
     let lengths = Vec::from_slice(alloc, &[1, 1, 1, 1, 1])?;
     let failing = Vec::from_slice(alloc, &[7])?;
@@ -77,5 +84,156 @@ fn all_is_said_one_byte_at_a_time(rt: HostRuntime) -> Result<(), Fail> {
     assert_eq!(rt; say(&mut link, b"a"), Ok(()));
     assert_eq!(rt; say(&mut link, b"b"), Err(WriteFault));
     assert_eq!(rt; link.written(), b"hello!a".as_slice());
+    Ok(())
+}
+
+// Serves one session of these limits over the link.
+fn served<L: Link>(alloc: Global, link: &mut L) -> Result<SessionEnd, AllocError> {
+    let mut reader = Reader::new(alloc)?;
+    let decoder = Decoder::new(alloc, LIMITS)?;
+    let mut echo = Echo::new();
+    let (_, _, end) = serve(link, &mut reader, decoder, Vec::new(alloc), &mut echo);
+    Ok(end)
+}
+
+// A link with these bytes, of which the first read gives at most as many, and whose call of this number fails.
+fn link_with(
+    alloc: Global,
+    bytes: &[u8],
+    cut: usize,
+    failing: Option<u64>,
+) -> Result<MemoryLink, AllocError> {
+    let mut calls = Vec::new(alloc);
+    if let Some(number) = failing {
+        calls.push(number)?;
+    }
+    let bytes = Vec::from_slice(alloc, bytes)?;
+    let lengths = Vec::from_slice(alloc, &[cut])?;
+    Ok(MemoryLink::new(alloc, bytes, lengths, Vec::new(alloc), calls))
+}
+
+// Three sessions: their bytes, what is written, and how they end.
+fn row(number: usize) -> (&'static [u8], &'static [&'static [u8]], SessionEnd) {
+    match number {
+        0 => (TWO, &[b"{}", b"a\n#"], SessionEnd::Ended),
+        1 => (
+            b"#\n[1]\n#\n#\n {\n",
+            &[b"-", b"[1]"],
+            SessionEnd::Cut { place: 13 },
+        ),
+        _ => (
+            b"[]\n#\n#\n#x{}\n#\n#\n",
+            &[b"[]", FRAMING_TEXT],
+            SessionEnd::Framing {
+                place: 9,
+                reason: Reason::Marker,
+            },
+        ),
+    }
+}
+
+fn joined(alloc: Global, texts: &[&[u8]]) -> Result<Vec<u8>, AllocError> {
+    let mut all = Vec::new(alloc);
+    for text in texts {
+        all.extend_from_slice(text)?;
+    }
+    Ok(all)
+}
+
+#[test]
+fn a_cut_between_two_reads_changes_nothing(rt: HostRuntime) -> Result<(), Fail> {
+    let alloc = rt.alloc();
+    for number in 0..3 {
+        let (bytes, texts, end) = row(number);
+        for cut in 0..bytes.len() {
+            let mut link = link_with(alloc, bytes, cut, None)?;
+            assert_eq!(rt; served(alloc, &mut link)?, end, "row {number} at {cut}");
+            let expected = joined(alloc, texts)?;
+            assert_eq!(rt;
+                link.written(),
+                expected.as_slice(),
+                "row {number} at {cut}"
+            );
+            assert!(rt; !link.is_closed());
+        }
+    }
+    Ok(())
+}
+
+#[test]
+fn a_failing_call_ends_a_session_with_its_fault(rt: HostRuntime) -> Result<(), Fail> {
+    let alloc = rt.alloc();
+    for number in 0..3 {
+        let (bytes, texts, end) = row(number);
+        let expected = joined(alloc, texts)?;
+        for cut in 1..bytes.len() {
+            for call in 0..7 {
+                let mut link = link_with(alloc, bytes, cut, Some(call))?;
+                let ended = served(alloc, &mut link)?;
+                let failed = ended == SessionEnd::ReadFault || ended == SessionEnd::WriteFault;
+                assert_eq!(rt;
+                    failed,
+                    link.faults() == 1,
+                    "row {number} at {cut}, call {call}"
+                );
+                assert!(rt;
+                    failed || ended == end,
+                    "row {number} at {cut}, call {call}"
+                );
+                assert!(rt;
+                    expected.starts_with(link.written()),
+                    "row {number} at {cut}, call {call}"
+                );
+                assert!(rt; failed || link.written() == expected.as_slice());
+            }
+        }
+    }
+    Ok(())
+}
+
+#[test]
+fn a_write_that_fails_first_leaves_nothing_written(rt: HostRuntime) -> Result<(), Fail> {
+    let alloc = rt.alloc();
+    let mut link = link_with(alloc, TWO, TWO.len(), Some(1))?;
+    assert_eq!(rt; served(alloc, &mut link)?, SessionEnd::WriteFault);
+    assert_eq!(rt; link.written(), b"".as_slice());
+    let mut broken = link_with(alloc, b"#x", 2, Some(1))?;
+    assert_eq!(rt; served(alloc, &mut broken)?, SessionEnd::WriteFault);
+    Ok(())
+}
+
+#[test]
+fn a_reply_is_written_before_the_next_read(rt: HostRuntime) -> Result<(), Fail> {
+    let mut link = Patient::new();
+    assert_eq!(rt; served(rt.alloc(), &mut link)?, SessionEnd::Ended);
+    assert_eq!(rt; link.replies(), 3);
+    Ok(())
+}
+
+#[test]
+fn decoder_and_buffer_serve_a_second_session(rt: HostRuntime) -> Result<(), Fail> {
+    let alloc = rt.alloc();
+    let mut reader = Reader::new(alloc)?;
+    let decoder = Decoder::new(alloc, LIMITS)?;
+    let mut echo = Echo::new();
+    let mut first = MemoryLink::of(alloc, b"#x")?;
+    let (mut decoder, buffer, end) = serve(
+        &mut first,
+        &mut reader,
+        decoder,
+        Vec::new(alloc),
+        &mut echo,
+    );
+    let fault = SessionEnd::Framing {
+        place: 2,
+        reason: Reason::Marker,
+    };
+    assert_eq!(rt; end, fault);
+    reader.restart();
+    decoder.restart();
+    let mut second = MemoryLink::of(alloc, TWO)?;
+    let (_, _, end) = serve(&mut second, &mut reader, decoder, buffer, &mut echo);
+    assert_eq!(rt; end, SessionEnd::Ended);
+    assert_eq!(rt; second.written(), b"{}a\n#".as_slice());
     Ok(())
 }

@@ -1,0 +1,64 @@
+-- The history of the session of a run, turn by turn.
+use Rattle.std.proofs.Common.{◌≡◌, ℕ, List, [], ◌∷◌, ◌++◌, true, ◌&&◌, nat_eq, Option, unwrap_or, option_map, map, refl, sym, ap, ◌∙◌, subst, arith, eq-eqb}
+use Rattle.std.proofs.lemmas.List.{map-append}
+use Rattle.std.specs.List.{AllByRecursion}
+use Rattle.doip_segment.specs.Segments.{Segment}
+use Rattle.doip_message.specs.Reply.{reply_text}
+use Rattle.session_core.specs.Pairs.{Pair, pair}
+use Rattle.repo_step.specs.declared.outcome.Outcome.{Outcome}
+use Rattle.repo_step.specs.declared.outcome.Outcome.TheVariants.{Done, NoMemory}
+use Rattle.repo_step.specs.Setting.{Setting, State}
+use Rattle.repo_step.specs.Step.{step}
+use Rattle.repo_step.specs.History.{Entry, MomentsFrom, fixed_reply, is_of, state_after, pair_of, exchange_of, pairs_of}
+use Rattle.repo_step.proofs.Histories.{pairs_more}
+use Rattle.repo_top.specs.Session.{IsPast, first_state, session_pairs, turn_of}
+
+all_more : {X : Type 0} (P : X → Type 0) (xs : List X) (x : X) → AllByRecursion P xs → P x → AllByRecursion P (xs ++ x ∷ [])
+all_more P [] x all one = (one, tt)
+all_more P (y ∷ xs) x all one = (all.0, all_more P xs x all.1 one)
+
+-- moments that are all 0 never fall
+never_fall : (m : ℕ) (es : List Entry) → m ≡ 0 → AllByRecursion (λ e. e.moment ≡ 0) es → MomentsFrom m es
+never_fall m [] zero all = tt
+never_fall m (e ∷ es) zero all = (omega (arith, zero, all.0), never_fall e.moment es all.0 all.1)
+
+own : (lane session : ℕ) (message : List Segment) (outcome : Outcome) → is_of lane session (turn_of lane session message outcome) ≡ true
+own lane session message outcome = rw (eq-eqb lane lane refl, eq-eqb session session refl) refl
+
+pub no_turn : (setting : Setting) (lane session : ℕ) (es : List Entry) → es ≡ [] → IsPast setting lane session es
+no_turn setting lane session [] is = record { legal = record { moments = tt }; no_other = tt; moments = tt }
+no_turn setting lane session (e ∷ es) is = absurd (cc is)
+
+-- one turn more
+pub past_more : (setting : Setting) (lane session : ℕ) (es new : List Entry) (message : List Segment) (outcome : Outcome) → IsPast setting lane session es
+    → new ≡ es ++ turn_of lane session message outcome ∷ [] → IsPast setting lane session new
+past_more setting lane session es new message outcome past is = subst (IsPast setting lane session) (sym is) (record {
+  legal = record { moments = never_fall 0 (es ++ turn_of lane session message outcome ∷ []) refl moments };
+  no_other = all_more (λ e. is_of lane session e ≡ true) es (turn_of lane session message outcome) past.no_other (own lane session message outcome);
+  moments = moments;
+})
+  where
+    moments : AllByRecursion (λ e. e.moment ≡ 0) (es ++ turn_of lane session message outcome ∷ [])
+    moments = all_more (λ e. e.moment ≡ 0) es (turn_of lane session message outcome) past.moments refl
+
+-- the text of the reply to a turn: what was made, where the turn is done, or the text that the outcome fixes
+pub reply_made : (setting : Setting) (state : State) (lane session : ℕ) (message : List Segment) (made : List ℕ) (outcome : Outcome)
+    → (outcome ≡ Done → made ≡ reply_text (step setting (record {}) state message).reply)
+    → unwrap_or (option_map reply_text (fixed_reply outcome)) made ≡ (pair_of (exchange_of setting state (turn_of lane session message outcome))).1
+reply_made setting state lane session message made Done is = is refl
+reply_made setting state lane session message made NoMemory is = refl
+
+-- and its pair
+pub pairs_turn : (setting : Setting) (lane session : ℕ) (es new : List Entry) (message : List Segment) (outcome : Outcome) (text made : List ℕ)
+    → new ≡ es ++ turn_of lane session message outcome ∷ []
+    → text ≡ unwrap_or (option_map reply_text (fixed_reply outcome)) made
+    → (outcome ≡ Done → (state : State) → made ≡ reply_text (step setting (record {}) state message).reply)
+    → session_pairs setting first_state lane session new ≡ session_pairs setting first_state lane session es ++ pair message text ∷ []
+pairs_turn setting lane session es new message outcome text made is said done =
+    let e : Entry = turn_of lane session message outcome in
+    let state : State = state_after setting (λ e. e) first_state es in
+    let last : text ≡ (pair_of (exchange_of setting state e)).1 = said ∙ reply_made setting state lane session message made outcome (λ h. done h state) in
+    ap (session_pairs setting first_state lane session) is
+    ∙ (ap (map (λ p. pair p.0 p.1)) (pairs_more setting (λ e. e) (is_of lane session) first_state es e (own lane session message outcome))
+    ∙ (map-append (λ p. pair p.0 p.1) (pairs_of setting lane session first_state es) (pair_of (exchange_of setting state e) ∷ [])
+    ∙ ap (λ (t : List ℕ). session_pairs setting first_state lane session es ++ pair message t ∷ []) (sym last)))
