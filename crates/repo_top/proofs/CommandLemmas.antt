@@ -6,7 +6,7 @@ use Rattle.std.proofs.lemmas.Option.{slice_get_within, get_or_from_slice_get}
 use Rattle.std.proofs.lemmas.Fmt.{decimal_injective}
 use Rattle.std.proofs.lemmas.Grind.{flat_map-append}
 use Rattle.std.specs.List.{AllByRecursion}
-use Rattle.repo_top.specs.Command.{Given, Address, Port, Request, Command, AreWordsOf, IsCommand, IsInForm, IsService, words_of, address_in, port_in, request_in, request_limit}
+use Rattle.repo_top.specs.Command.{GivenOption, Address, Port, Request, Command, AreArgumentsOf, IsCommand, IsInForm, IsService, spelling_of, address_in, port_in, request_in, port_of, request_limit}
 use Rattle.repo_top.specs.Taking.{IsGiven, with_option, Takes, Refuses, HasTaken}
 
 -- two words in front of others
@@ -22,14 +22,14 @@ two m n s t xs ys e = record { names = cc; values = cc; others = cc }
 letter : (m n : List ℕ) → m ≡ n → get_or m 2 0 ≡ get_or n 2 0
 letter m n e = ap (λ (w : List ℕ). get_or w 2 0) e
 
-record Same (a b : Given) (xs ys : List (List ℕ)) : Type 0 where
+record Same (a b : GivenOption) (xs ys : List (List ℕ)) : Type 0 where
   option : a ≡ b
   others : xs ≡ ys
 
 numbers : (m n : ℕ) → m ≤ 16777216 → n ≤ 16777216 → decimal m ≡ decimal n → m ≡ n
 numbers m n a b e = decimal_injective m n (omega (arith, a)) (omega (arith, b)) e
 
-same : (a b : Given) (xs ys : List (List ℕ)) → IsInForm a → IsInForm b → words_of a ++ xs ≡ words_of b ++ ys → Same a b xs ys
+same : (a b : GivenOption) (xs ys : List (List ℕ)) → IsInForm a → IsInForm b → spelling_of a ++ xs ≡ spelling_of b ++ ys → Same a b xs ys
 same (Address s) (Address t) xs ys f g e = let h = two _ _ s t xs ys e in record { option = ap Address h.values; others = h.others }
 same (Address s) (Port n) xs ys f g e = absurd (omega (arith, letter _ _ (two _ _ s (decimal n) xs ys e).names))
 same (Address s) (Request n) xs ys f g e = absurd (omega (arith, letter _ _ (two _ _ s (decimal n) xs ys e).names))
@@ -42,32 +42,32 @@ same (Request m) (Port n) xs ys f g e = absurd (omega (arith, letter _ _ (two _ 
 same (Request m) (Request n) xs ys f g e =
     let h = two _ _ (decimal m) (decimal n) xs ys e in record { option = ap Request (numbers m n f.1 g.1 h.values); others = h.others }
 
-length-words : (a : Given) → length (words_of a) ≡ 2
+length-words : (a : GivenOption) → length (spelling_of a) ≡ 2
 length-words (Address text) = refl
 length-words (Port n) = refl
 length-words (Request n) = refl
 
 -- no words, or two and others
-some : (given : List Given) (a : Given) → 2 ≤ length (flat_map words_of (a ∷ given))
-some given a = omega (arith, length-words a, length-append (words_of a) (flat_map words_of given))
+some : (given : List GivenOption) (a : GivenOption) → 2 ≤ length (flat_map spelling_of (a ∷ given))
+some given a = omega (arith, length-words a, length-append (spelling_of a) (flat_map spelling_of given))
 
 -- options whose words begin with those of others begin with these
-record Follows (given all : List Given) (rest : List (List ℕ)) : Type 0 where
-  more : List Given
+record Follows (given all : List GivenOption) (rest : List (List ℕ)) : Type 0 where
+  more : List GivenOption
   are : all ≡ given ++ more
-  words : flat_map words_of more ≡ rest
+  words : flat_map spelling_of more ≡ rest
 
-follows : (given all : List Given) (rest : List (List ℕ)) → AllByRecursion IsInForm given → AllByRecursion IsInForm all → flat_map words_of all ≡ flat_map words_of given ++ rest → Follows given all rest
+follows : (given all : List GivenOption) (rest : List (List ℕ)) → AllByRecursion IsInForm given → AllByRecursion IsInForm all → flat_map spelling_of all ≡ flat_map spelling_of given ++ rest → Follows given all rest
 follows [] all rest f g e = record { more = all; are = refl; words = e }
 follows (a ∷ given) [] rest f g e =
-    absurd (omega (arith, ap length e, some given a, length-append (flat_map words_of (a ∷ given)) rest))
+    absurd (omega (arith, ap length e, some given a, length-append (flat_map spelling_of (a ∷ given)) rest))
 follows (a ∷ given) (b ∷ all) rest f g e =
-    let h = same b a (flat_map words_of all) (flat_map words_of given ++ rest) g.0 f.0 (e ∙ append_assoc (words_of a) (flat_map words_of given) rest) in
+    let h = same b a (flat_map spelling_of all) (flat_map spelling_of given ++ rest) g.0 f.0 (e ∙ append_assoc (spelling_of a) (flat_map spelling_of given) rest) in
     let k = follows given all rest f.1 g.1 h.others in
-    record { more = k.more; are = ap (λ (x : Given). x ∷ all) h.option ∙ ap (λ (xs : List Given). a ∷ xs) k.are; words = k.words }
+    record { more = k.more; are = ap (λ (x : GivenOption). x ∷ all) h.option ∙ ap (λ (xs : List GivenOption). a ∷ xs) k.are; words = k.words }
 
 -- what is behind the options that were taken, in any command that the words are
-behind : (words : List (List ℕ)) (place : ℕ) (taken command : Command) (h : HasTaken words place taken) (k : AreWordsOf command words) → Follows h.given k.given (drop place words)
+behind : (words : List (List ℕ)) (place : ℕ) (taken command : Command) (h : HasTaken words place taken) (k : AreArgumentsOf command words) → Follows h.given k.given (drop place words)
 behind words place taken command h k =
     follows h.given k.given (drop place words) h.in_form k.in_form (ap (λ (w : List (List ℕ)). drop 2 w) (sym k.in_order ∙ h.in_order))
 
@@ -80,7 +80,7 @@ length-most : {X : Type 0} (a : Option X) → length (option_to_list a) ≤ 1
 length-most None = omega arith
 length-most (Some x) = omega arith
 
-once : {X : Type 0} (f : Given → List X) (given more : List Given) (a : Given) (b c : Option X) → flat_map f given ≡ option_to_list b → flat_map f (given ++ a ∷ more) ≡ option_to_list c → IsSome b → 1 ≤ length (f a) → ⊥
+once : {X : Type 0} (f : GivenOption → List X) (given more : List GivenOption) (a : GivenOption) (b c : Option X) → flat_map f given ≡ option_to_list b → flat_map f (given ++ a ∷ more) ≡ option_to_list c → IsSome b → 1 ≤ length (f a) → ⊥
 once f given more a b c before all is one =
     omega (
       arith,
@@ -95,7 +95,7 @@ once f given more a b c before all is one =
     )
 
 -- an option that is there isn't given again
-not_again : (given more : List Given) (a : Given) (taken command : Command) → flat_map address_in given ≡ option_to_list taken.address → flat_map port_in given ≡ option_to_list taken.port
+not_again : (given more : List GivenOption) (a : GivenOption) (taken command : Command) → flat_map address_in given ≡ option_to_list taken.address → flat_map port_in given ≡ option_to_list taken.port
     → flat_map request_in given ≡ option_to_list taken.request → flat_map address_in (given ++ a ∷ more) ≡ option_to_list command.address → flat_map port_in (given ++ a ∷ more) ≡ option_to_list command.port
     → flat_map request_in (given ++ a ∷ more) ≡ option_to_list command.request → IsGiven taken a → ⊥
 not_again given more (Address text) taken command a p r a' p' r' is = once address_in given more (Address text) taken.address command.address a a' is (omega arith)
@@ -109,16 +109,16 @@ one_left words place taken name h rest is = at (behind words place taken is.0 h 
     at : (k : Follows h.given is.1.given (drop place words)) → ⊥
     at k = none k.more (k.words ∙ rest)
       where
-        none : (more : List Given) → flat_map words_of more ≡ name ∷ [] → ⊥
+        none : (more : List GivenOption) → flat_map spelling_of more ≡ name ∷ [] → ⊥
         none [] e = omega (arith, ap length e)
         none (a ∷ more) e = omega (arith, ap length e, some more a)
 
-front : (a : Given) (xs : List (List ℕ)) (name value : List ℕ) (rest : List (List ℕ)) → words_of a ++ xs ≡ name ∷ value ∷ rest → words_of a ≡ name ∷ value ∷ []
+front : (a : GivenOption) (xs : List (List ℕ)) (name value : List ℕ) (rest : List (List ℕ)) → spelling_of a ++ xs ≡ name ∷ value ∷ rest → spelling_of a ≡ name ∷ value ∷ []
 front (Address text) xs name value rest e = let h = two _ name text value xs rest e in ap (λ (n : List ℕ). n ∷ text ∷ []) h.names ∙ ap (λ (v : List ℕ). name ∷ v ∷ []) h.values
 front (Port n) xs name value rest e = let h = two _ name (decimal n) value xs rest e in ap (λ (m : List ℕ). m ∷ decimal n ∷ []) h.names ∙ ap (λ (v : List ℕ). name ∷ v ∷ []) h.values
 front (Request n) xs name value rest e = let h = two _ name (decimal n) value xs rest e in ap (λ (m : List ℕ). m ∷ decimal n ∷ []) h.names ∙ ap (λ (v : List ℕ). name ∷ v ∷ []) h.values
 
-its_form : (given more : List Given) (a : Given) → AllByRecursion IsInForm (given ++ a ∷ more) → IsInForm a
+its_form : (given more : List GivenOption) (a : GivenOption) → AllByRecursion IsInForm (given ++ a ∷ more) → IsInForm a
 its_form [] more a h = h.0
 its_form (b ∷ given) more a h = its_form given more a h.1
 
@@ -129,13 +129,13 @@ refused words place taken name value rest h next refuses is = at (behind words p
     at : (k : Follows h.given is.1.given (drop place words)) → ⊥
     at k = none k.more k.are (k.words ∙ next)
       where
-        none : (more : List Given) → is.1.given ≡ h.given ++ more → flat_map words_of more ≡ name ∷ value ∷ rest → ⊥
+        none : (more : List GivenOption) → is.1.given ≡ h.given ++ more → flat_map spelling_of more ≡ name ∷ value ∷ rest → ⊥
         none [] are e = omega (arith, ap length e)
         none (a ∷ more) are e =
-            let spelt = front a (flat_map words_of more) name value rest e in
-            let form = its_form h.given more a (subst (λ (gs : List Given). AllByRecursion IsInForm gs) are is.1.in_form) in
-            not_again h.given more a taken is.0 h.address h.port h.request (ap (λ (gs : List Given). flat_map address_in gs) (sym are) ∙ is.1.address)
-            (ap (λ (gs : List Given). flat_map port_in gs) (sym are) ∙ is.1.port) (ap (λ (gs : List Given). flat_map request_in gs) (sym are) ∙ is.1.request) (refuses a spelt form)
+            let spelt = front a (flat_map spelling_of more) name value rest e in
+            let form = its_form h.given more a (subst (λ (gs : List GivenOption). AllByRecursion IsInForm gs) are is.1.in_form) in
+            not_again h.given more a taken is.0 h.address h.port h.request (ap (λ (gs : List GivenOption). flat_map address_in gs) (sym are) ∙ is.1.address)
+            (ap (λ (gs : List GivenOption). flat_map port_in gs) (sym are) ∙ is.1.port) (ap (λ (gs : List GivenOption). flat_map request_in gs) (sym are) ∙ is.1.request) (refuses a spelt form)
 
 -- what isn't there behind a reference isn't there
 pub is_absent : {T : Type 0} (o : Option (Bor T)) (b : Bool) → b ≡ is_some o → b ≡ false → IsSome (option_copied o) → ⊥
@@ -143,11 +143,11 @@ is_absent None b is isnt h = cc
 is_absent (Some x) b is isnt h = let e : true ≡ false = sym is ∙ isnt in cc
 
 -- one more option
-all_more : (given : List Given) (a : Given) → AllByRecursion IsInForm given → IsInForm a → AllByRecursion IsInForm (given ++ a ∷ [])
+all_more : (given : List GivenOption) (a : GivenOption) → AllByRecursion IsInForm given → IsInForm a → AllByRecursion IsInForm (given ++ a ∷ [])
 all_more [] a h k = (k, tt)
 all_more (b ∷ given) a h k = (h.0, all_more given a h.1 k)
 
-another : {X : Type 0} (f : Given → List X) (given : List Given) (a : Given) (b : Option X) → flat_map f given ≡ option_to_list b → f a ≡ [] → flat_map f (given ++ a ∷ []) ≡ option_to_list b
+another : {X : Type 0} (f : GivenOption → List X) (given : List GivenOption) (a : GivenOption) (b : Option X) → flat_map f given ≡ option_to_list b → f a ≡ [] → flat_map f (given ++ a ∷ []) ≡ option_to_list b
 another f given a b is none =
     flat_map-append f given (a ∷ []) ∙ ap (λ xs. flat_map f given ++ (xs ++ [])) none ∙ append-nil (flat_map f given) ∙ is
 
@@ -155,16 +155,16 @@ nothing : {X : Type 0} (b : Option X) → ¬ IsSome b → option_to_list b ≡ [
 nothing None h = refl
 nothing (Some x) h = absurd (h refl)
 
-this_one : {X : Type 0} (f : Given → List X) (given : List Given) (a : Given) (b : Option X) (x : X) → flat_map f given ≡ option_to_list b → ¬ IsSome b → f a ≡ x ∷ [] → flat_map f (given ++ a ∷ []) ≡ option_to_list (Some x)
+this_one : {X : Type 0} (f : GivenOption → List X) (given : List GivenOption) (a : GivenOption) (b : Option X) (x : X) → flat_map f given ≡ option_to_list b → ¬ IsSome b → f a ≡ x ∷ [] → flat_map f (given ++ a ∷ []) ≡ option_to_list (Some x)
 this_one f given a b x is none gives =
     flat_map-append f given (a ∷ []) ∙ ap (λ xs. xs ++ (f a ++ [])) (is ∙ nothing b none) ∙ ap (λ xs. xs ++ []) gives
 
-record Values (given : List Given) (command : Command) : Type 0 where
+record Values (given : List GivenOption) (command : Command) : Type 0 where
   address : flat_map address_in given ≡ option_to_list command.address
   port : flat_map port_in given ≡ option_to_list command.port
   request : flat_map request_in given ≡ option_to_list command.request
 
-values_with : (given : List Given) (a : Given) (old : Command) → Values given old → ¬ IsGiven old a → Values (given ++ a ∷ []) (with_option old a)
+values_with : (given : List GivenOption) (a : GivenOption) (old : Command) → Values given old → ¬ IsGiven old a → Values (given ++ a ∷ []) (with_option old a)
 values_with given (Address text) old v is_new =
     record {
       address = this_one address_in given (Address text) old.address text v.address is_new refl;
@@ -184,7 +184,7 @@ values_with given (Request n) old v is_new =
       request = this_one request_in given (Request n) old.request n v.request is_new refl;
     }
 
-service_kept : (old : Command) (a : Given) → old.service ≡ (with_option old a).service
+service_kept : (old : Command) (a : GivenOption) → old.service ≡ (with_option old a).service
 service_kept old (Address text) = refl
 service_kept old (Port n) = refl
 service_kept old (Request n) = refl
@@ -195,13 +195,13 @@ takes words place old new name value h next t = subst (λ (command : Command). H
     rest : List (List ℕ)
     rest = drop (place + 2) words
 
-    spelled : flat_map words_of (h.given ++ t.option ∷ []) ≡ flat_map words_of h.given ++ words_of t.option
-    spelled = flat_map-append words_of h.given (t.option ∷ []) ∙ ap (λ (w : List (List ℕ)). flat_map words_of h.given ++ w) (append-nil (words_of t.option))
+    spelled : flat_map spelling_of (h.given ++ t.option ∷ []) ≡ flat_map spelling_of h.given ++ spelling_of t.option
+    spelled = flat_map-append spelling_of h.given (t.option ∷ []) ∙ ap (λ (w : List (List ℕ)). flat_map spelling_of h.given ++ w) (append-nil (spelling_of t.option))
 
-    behind_it : flat_map words_of h.given ++ drop place words ≡ flat_map words_of (h.given ++ t.option ∷ []) ++ rest
+    behind_it : flat_map spelling_of h.given ++ drop place words ≡ flat_map spelling_of (h.given ++ t.option ∷ []) ++ rest
     behind_it =
-        ap (λ (w : List (List ℕ)). flat_map words_of h.given ++ w) next ∙ ap (λ (w : List (List ℕ)). flat_map words_of h.given ++ (w ++ rest)) (sym t.spelt)
-        ∙ sym (append_assoc (flat_map words_of h.given) (words_of t.option) rest) ∙ ap (λ (w : List (List ℕ)). w ++ rest) (sym spelled)
+        ap (λ (w : List (List ℕ)). flat_map spelling_of h.given ++ w) next ∙ ap (λ (w : List (List ℕ)). flat_map spelling_of h.given ++ (w ++ rest)) (sym t.spelt)
+        ∙ sym (append_assoc (flat_map spelling_of h.given) (spelling_of t.option) rest) ∙ ap (λ (w : List (List ℕ)). w ++ rest) (sym spelled)
 
     took : HasTaken words (place + 2) (with_option old t.option)
     took =
@@ -209,7 +209,7 @@ takes words place old new name value h next t = subst (λ (command : Command). H
         record {
           given = h.given ++ t.option ∷ [];
           in_order = h.in_order ∙ ap (λ (w : List (List ℕ)). codes "answer" ∷ old.service ∷ w) behind_it
-              ∙ ap (λ (s : List ℕ). codes "answer" ∷ s ∷ (flat_map words_of (h.given ++ t.option ∷ []) ++ rest)) (service_kept old t.option);
+              ∙ ap (λ (s : List ℕ). codes "answer" ∷ s ∷ (flat_map spelling_of (h.given ++ t.option ∷ []) ++ rest)) (service_kept old t.option);
           in_form = all_more h.given t.option h.in_form t.in_form;
           address = v.address;
           port = v.port;
@@ -248,12 +248,12 @@ starts words command a b address port request =
     }
 
 -- behind the last option
-pub whole : (words : List (List ℕ)) (command : Command) → HasTaken words (length words) command → IsService command.service → AreWordsOf command words
+pub whole : (words : List (List ℕ)) (command : Command) → HasTaken words (length words) command → IsService command.service → AreArgumentsOf command words
 whole words command h service =
     record {
       given = h.given;
-      in_order = h.in_order ∙ ap (λ (w : List (List ℕ)). codes "answer" ∷ command.service ∷ (flat_map words_of h.given ++ w)) (drop-length words)
-          ∙ ap (λ (w : List (List ℕ)). codes "answer" ∷ command.service ∷ w) (append-nil (flat_map words_of h.given));
+      in_order = h.in_order ∙ ap (λ (w : List (List ℕ)). codes "answer" ∷ command.service ∷ (flat_map spelling_of h.given ++ w)) (drop-length words)
+          ∙ ap (λ (w : List (List ℕ)). codes "answer" ∷ command.service ∷ w) (append-nil (flat_map spelling_of h.given));
       in_form = h.in_form;
       address = h.address;
       port = h.port;
@@ -261,14 +261,28 @@ whole words command h service =
       service = service;
     }
 
+-- a port is from 1
+port_in_form : (given : List GivenOption) (n : ℕ) → AllByRecursion IsInForm given → flat_map port_in given ≡ n ∷ [] → 1 ≤ n
+port_in_form [] n h e = absurd (omega (arith, ap length e))
+port_in_form (Address text ∷ given) n h e = port_in_form given n h.1 e
+port_in_form (Request m ∷ given) n h e = port_in_form given n h.1 e
+port_in_form (Port m ∷ given) n h e = let same_number : m ≡ n = ap (λ (w : List ℕ). get_or w 0 0) e in omega (arith, h.0.0, same_number)
+
+pub port_from_1 : (words : List (List ℕ)) (command : Command) → AreArgumentsOf command words → 1 ≤ port_of command
+port_from_1 words command h = at command.port h.port
+  where
+    at : (r : Option ℕ) → flat_map port_in h.given ≡ option_to_list r → 1 ≤ unwrap_or r 9000
+    at None e = omega arith
+    at (Some n) e = port_in_form h.given n h.in_form e
+
 -- the limit on requests is within its bounds
-all_of : (given : List Given) (n : ℕ) → AllByRecursion IsInForm given → flat_map request_in given ≡ n ∷ [] → (64 ≤ n) × (n ≤ 16777216)
+all_of : (given : List GivenOption) (n : ℕ) → AllByRecursion IsInForm given → flat_map request_in given ≡ n ∷ [] → (64 ≤ n) × (n ≤ 16777216)
 all_of [] n h e = absurd (omega (arith, ap length e))
 all_of (Address text ∷ given) n h e = all_of given n h.1 e
 all_of (Port m ∷ given) n h e = all_of given n h.1 e
 all_of (Request m ∷ given) n h e = let same_number : m ≡ n = ap (λ (w : List ℕ). get_or w 0 0) e in (omega (arith, h.0.0, same_number), omega (arith, h.0.1, same_number))
 
-pub limit : (words : List (List ℕ)) (command : Command) → AreWordsOf command words → (64 ≤ request_limit command) × (request_limit command ≤ 16777216)
+pub limit : (words : List (List ℕ)) (command : Command) → AreArgumentsOf command words → (64 ≤ request_limit command) × (request_limit command ≤ 16777216)
 limit words command h = at command.request h.request
   where
     at : (r : Option ℕ) → flat_map request_in h.given ≡ option_to_list r → (64 ≤ unwrap_or r 16777216) × (unwrap_or r 16777216 ≤ 16777216)

@@ -1,6 +1,6 @@
 pub mod Numbers
 pub mod CommandLemmas
 pub mod Replies
-pub mod Framings
-pub mod ServingLemmas
+pub mod SessionLemmas
+pub mod LawLemmas
 pub mod RunLemmas

@@ -1,17 +1,19 @@
 -- The history of the session of a run, turn by turn.
-use Rattle.std.proofs.Common.{◌≡◌, ℕ, List, [], ◌∷◌, ◌++◌, true, ◌&&◌, nat_eq, Option, unwrap_or, option_map, map, refl, sym, ap, ◌∙◌, subst, arith, eq-eqb}
+use Rattle.std.proofs.Common.{◌≡◌, ℕ, List, [], ◌∷◌, ◌++◌, true, unwrap_or, option_map, map, refl, sym, ap, ◌∙◌, subst, arith, eq-eqb}
 use Rattle.std.proofs.lemmas.List.{map-append}
 use Rattle.std.specs.List.{AllByRecursion}
 use Rattle.doip_segment.specs.Segments.{Segment}
 use Rattle.doip_message.specs.Reply.{reply_text}
-use Rattle.session_core.specs.Pairs.{Pair, pair}
+use Rattle.session_core.specs.Pairs.{pair}
 use Rattle.repo_step.specs.declared.outcome.Outcome.{Outcome}
 use Rattle.repo_step.specs.declared.outcome.Outcome.TheVariants.{Done, NoMemory}
 use Rattle.repo_step.specs.Setting.{Setting, State}
 use Rattle.repo_step.specs.Step.{step}
 use Rattle.repo_step.specs.History.{Entry, MomentsFrom, fixed_reply, is_of, state_after, pair_of, exchange_of, pairs_of}
 use Rattle.repo_step.proofs.Histories.{pairs_more}
-use Rattle.repo_top.specs.Session.{IsPast, first_state, session_pairs, turn_of}
+use Rattle.repo_step.specs.declared.config.Config.{Config}
+use Rattle.repo_step.specs.Setting.{setting_of}
+use Rattle.repo_top.specs.Session.{IsPast, Seat, first_state, session_pairs, turn_of}
 
 all_more : {X : Type 0} (P : X → Type 0) (xs : List X) (x : X) → AllByRecursion P xs → P x → AllByRecursion P (xs ++ x ∷ [])
 all_more P [] x all one = (one, tt)
@@ -62,3 +64,25 @@ pairs_turn setting lane session es new message outcome text made is said done =
     ∙ (ap (map (λ p. pair p.0 p.1)) (pairs_more setting (λ e. e) (is_of lane session) first_state es e (own lane session message outcome))
     ∙ (map-append (λ p. pair p.0 p.1) (pairs_of setting lane session first_state es) (pair_of (exchange_of setting state e) ∷ [])
     ∙ ap (λ (t : List ℕ). session_pairs setting first_state lane session es ++ pair message t ∷ []) (sym last)))
+
+-- the seat of a responder's parts
+abbrev pub seat : Config → ℕ → ℕ → Seat
+seat config lane session = record { setting = setting_of config; lane = lane; session = session }
+
+pub same_seat : (a b : Config) (c d e f : ℕ) → a ≡ b → c ≡ d → e ≡ f → seat a c e ≡ seat b d f
+same_seat a b c d e f h k l = λ i. seat (h i) (k i) (l i)
+
+-- both, for a seat that stays
+pub past_at : (old kept : Seat) (es new : List Entry) (message : List Segment) (outcome : Outcome) → kept ≡ old → IsPast old.setting old.lane old.session es
+    → new ≡ es ++ turn_of old.lane old.session message outcome ∷ [] → IsPast kept.setting kept.lane kept.session new
+past_at old kept es new message outcome same past is =
+    subst (λ (s : Seat). IsPast s.setting s.lane s.session new) (sym same) (past_more old.setting old.lane old.session es new message outcome past is)
+
+pub pairs_at : (old kept : Seat) (es new : List Entry) (message : List Segment) (outcome : Outcome) (text made : List ℕ) → kept ≡ old
+    → new ≡ es ++ turn_of old.lane old.session message outcome ∷ []
+    → text ≡ unwrap_or (option_map reply_text (fixed_reply outcome)) made
+    → (outcome ≡ Done → (state : State) → made ≡ reply_text (step old.setting (record {}) state message).reply)
+    → session_pairs kept.setting first_state kept.lane kept.session new ≡ session_pairs old.setting first_state old.lane old.session es ++ pair message text ∷ []
+pairs_at old kept es new message outcome text made same is said done =
+    ap (λ (s : Seat). session_pairs s.setting first_state s.lane s.session new) same
+    ∙ pairs_turn old.setting old.lane old.session es new message outcome text made is said done

@@ -1,43 +1,43 @@
--- The words of the command line as a command. This project's own.
+-- The arguments of the program as a command. This project's own.
 use Rattle.std.specs.Prelude.{◌≡◌, ◌≤◌, ℕ, List, [], ◌∷◌, length, Option, codes, decimal, nat_eq, flat_map, unwrap_or, option_to_list}
 use Rattle.std.specs.List.{AllByRecursion, before_first}
 use Rattle.dobj_model.specs.Name.{IsName}
 
 -- an option that is given
-pub data Given : Type 0 where
-  Address : List ℕ → Given
-  Port : ℕ → Given
-  Request : ℕ → Given
+pub data GivenOption : Type 0 where
+  Address : List ℕ → GivenOption
+  Port : ℕ → GivenOption
+  Request : ℕ → GivenOption
 
--- its two words: a name and a value, a number in decimal digits with no sign and no leading zero
-abbrev pub words_of : Given → List (List ℕ)
-words_of (Address text) = codes "--address" ∷ text ∷ []
-words_of (Port n) = codes "--port" ∷ decimal n ∷ []
-words_of (Request n) = codes "--request" ∷ decimal n ∷ []
+-- its two arguments: a name and a value, a number in decimal digits with no sign and no leading zero
+abbrev pub spelling_of : GivenOption → List (List ℕ)
+spelling_of (Address text) = codes "--address" ∷ text ∷ []
+spelling_of (Port n) = codes "--port" ∷ decimal n ∷ []
+spelling_of (Request n) = codes "--request" ∷ decimal n ∷ []
 
 -- the bounds of its value
-abbrev pub IsInForm : Given → Type 0
+abbrev pub IsInForm : GivenOption → Type 0
 IsInForm (Address text) = Unit {0}
 IsInForm (Port n) = (1 ≤ n) × (n ≤ 65535)
 IsInForm (Request n) = (64 ≤ n) × (n ≤ 16777216)
 
 -- the value of an option that is an address, a port, a limit on requests
-abbrev pub address_in : Given → List (List ℕ)
+abbrev pub address_in : GivenOption → List (List ℕ)
 address_in (Address text) = text ∷ []
 address_in (Port n) = []
 address_in (Request n) = []
 
-abbrev pub port_in : Given → List ℕ
+abbrev pub port_in : GivenOption → List ℕ
 port_in (Address text) = []
 port_in (Port n) = n ∷ []
 port_in (Request n) = []
 
-abbrev pub request_in : Given → List ℕ
+abbrev pub request_in : GivenOption → List ℕ
 request_in (Address text) = []
 request_in (Port n) = []
 request_in (Request n) = n ∷ []
 
--- the prefix of a service: what stands before the first '/', or all of it
+-- the prefix of a service: what comes before the first '/', or all of it
 abbrev pub prefix_of : List ℕ → List ℕ
 prefix_of service = before_first (λ b. nat_eq b 47) service
 
@@ -52,21 +52,21 @@ pub record Command : Type 0 where
   pub port : Option ℕ
   pub request : Option ℕ
 
--- The words are `answer`, the service, and then options in any order, each at most once.
-pub record AreWordsOf (command : Command) (words : List (List ℕ)) : Type 0 where
-  pub given : List Given
-  pub in_order : words ≡ codes "answer" ∷ command.service ∷ flat_map words_of given
+-- The arguments are `answer`, the service, and then options in any order, each at most once.
+pub record AreArgumentsOf (command : Command) (words : List (List ℕ)) : Type 0 where
+  pub given : List GivenOption
+  pub in_order : words ≡ codes "answer" ∷ command.service ∷ flat_map spelling_of given
   pub in_form : AllByRecursion IsInForm given
   pub address : flat_map address_in given ≡ option_to_list command.address
   pub port : flat_map port_in given ≡ option_to_list command.port
   pub request : flat_map request_in given ≡ option_to_list command.request
   pub service : IsService command.service
 
--- the words are a command
+-- the command line is valid
 abbrev pub IsCommand : List (List ℕ) → Type 0
-IsCommand words = (command : Command) × AreWordsOf command words
+IsCommand words = (command : Command) × AreArgumentsOf command words
 
--- what holds without an option
+-- the address, the port and the limit on requests, also without their options
 abbrev pub address_of : Command → List ℕ
 address_of command = unwrap_or command.address (codes "127.0.0.1")
 

@@ -1,77 +1,47 @@
--- One session of a link: what was read, what was answered, and how it ended. This project's own.
-use Rattle.std.specs.Prelude.{◌≡◌, ◌+◌, ◌-◌, ◌^◌, ◌⊎◌, ℕ, min, List, [], ◌∷◌, ◌++◌, length, take, None, codes}
+-- The session of a run without a store: its pairs are the entries of its lane and number, each with the text of its reply.
+-- This project's own.
+use Rattle.std.specs.Prelude.{◌≡◌, ℕ, List, map}
 use Rattle.std.specs.List.{AllByRecursion}
-use Rattle.link_core.specs.Causes.{Rose}
-use Rattle.doip_segment.specs.declared.outcome.Limits.{Limits}
-use Rattle.doip_segment.specs.declared.outcome.Reason.{Reason}
 use Rattle.doip_segment.specs.Segments.{Segment}
-use Rattle.doip_segment.specs.Grammar.{IsWhite}
-use Rattle.doip_segment.specs.Framing.{Framed, Broken}
-use Rattle.doip_message.specs.declared.response.Status.TheVariants.{Invalid}
-use Rattle.doip_message.specs.Reply.{refusal, reply_text}
-use Rattle.repo_step.specs.declared.config.Config.{Config}
-use Rattle.repo_step.specs.History.{Entry, Legal, entry_text, replies_text, messages_of, entries_of}
-use Rattle.repo_top.specs.declared.outcome.SessionEnd.{SessionEnd}
-use Rattle.repo_top.specs.declared.outcome.SessionEnd.TheVariants.{Ended, Cut, Framing, ReadFault, WriteFault}
+use Rattle.session_core.specs.Pairs.{Pair, pair}
+use Rattle.session_core.specs.Session.{Transcript}
+use Rattle.repo_step.specs.declared.outcome.Outcome.{Outcome}
+use Rattle.repo_step.specs.Setting.{Setting, State}
+use Rattle.repo_step.specs.History.{Entry, Legal, pairs_of}
+use Rattle.repo_step.specs.Laws.{IsAllOf}
 
--- a place as it is told: at most the greatest number of 64 bits
-abbrev pub told : ℕ → ℕ
-told place = min place (2 ^ 64 - 1)
+-- the state before the first message of a repository without a store: it holds nothing
+abbrev pub first_state : State
+first_state = record {}
 
--- the last text of a session whose bytes frame no message
-abbrev pub framing_text : List ℕ
-framing_text = reply_text (refusal None Invalid (codes "framing fault"))
+-- the entry of a turn without a store: it brings nothing, and there is no disk's clock
+abbrev pub turn_of : ℕ → ℕ → List Segment → Outcome → Entry
+turn_of lane session message outcome =
+    record { lane = lane; session = session; message = message; outcome = outcome; moment = 0; brought = record {} }
 
--- the bytes break nowhere
-abbrev pub IsUnbroken : Limits → List ℕ → Type 0
-IsUnbroken limits bytes = (place : ℕ) (reason : Reason) → Broken limits bytes place reason → ⊥
+-- where a session's messages are replied to: by a repository set up so, in this lane and session
+pub record Seat : Type 0 where
+  pub setting : Setting
+  pub lane : ℕ
+  pub session : ℕ
 
--- Each message has its entry, in order.
-abbrev pub AnswersAll : List Entry → List (List Segment) → Type 0
-AnswersAll entries messages = messages_of entries ≡ messages
+-- the pairs of one session of a history, in order: each message with the text of its reply
+abbrev pub session_pairs : Setting → State → ℕ → ℕ → List Entry → List Pair
+session_pairs setting first lane session history = map (λ p. pair p.0 p.1) (pairs_of setting lane session first history)
 
--- The write of a reply failed: the texts of the replies were written, and the last of them may lack a suffix.
-pub record ReplyFailed (config : Config) (entries : List Entry) (messages : List (List Segment)) (written : List ℕ) : Type 0 where
-  pub before : List Entry
-  pub last : Entry
-  pub said : ℕ
-  pub later : List (List Segment)
-  pub are : entries ≡ before ++ last ∷ []
-  pub a_front : messages ≡ messages_of entries ++ later
-  pub wrote : written ≡ replies_text config before ++ take said (entry_text config last)
+-- The history of a run without a store: legal, all of it of this one session, and at moment 0, since there is no disk's
+-- clock.
+pub record IsPast (setting : Setting) (lane session : ℕ) (history : List Entry) : Type 0 where
+  pub legal : Legal setting first_state history
+  pub no_other : IsAllOf lane session history
+  pub moments : AllByRecursion (λ e. e.moment ≡ 0) history
 
--- The write of the framing text failed: all replies were written, and of that text a front.
-pub record FramingFailed (limits : Limits) (config : Config) (entries : List Entry) (messages : List (List Segment)) (rest written : List ℕ) : Type 0 where
-  pub place : ℕ
-  pub reason : Reason
-  pub said : ℕ
-  pub breaks : Broken limits rest place reason
-  pub all : AnswersAll entries messages
-  pub wrote : written ≡ replies_text config entries ++ take said framing_text
+-- The session has this history: the pairs of the one are those of the other.
+pub record IsSessionOf (setting : Setting) (history : List Entry) (t : Transcript) : Type 0 where
+  pub past : IsPast setting 0 0 history
+  pub pairs : t.pairs ≡ session_pairs setting first_state 0 0 history
 
--- what holds at each end of a session, of whose bytes the messages were framed before the rest, and whose link may be at its end
-abbrev pub EndsSo : Limits → Config → List Entry → List (List Segment) → List ℕ → List ℕ → List ℕ → Type 0 → ℕ → ℕ → SessionEnd → Type 0
-EndsSo limits config entries messages rest taken written at_end before now Ended =
-    AnswersAll entries messages × (written ≡ replies_text config entries) × at_end × AllByRecursion IsWhite rest × IsUnbroken limits rest
-EndsSo limits config entries messages rest taken written at_end before now (Cut place) =
-    AnswersAll entries messages × (written ≡ replies_text config entries) × at_end × ¬ AllByRecursion IsWhite rest × IsUnbroken limits rest × (place ≡ told (length taken))
-EndsSo limits config entries messages rest taken written at_end before now (Framing place reason) =
-    AnswersAll entries messages × (written ≡ replies_text config entries ++ framing_text)
-    × (p : ℕ) × Broken limits rest p reason × (q : ℕ) × (q + length rest ≡ length taken) × (place ≡ told (q + p))
-EndsSo limits config entries messages rest taken written at_end before now ReadFault =
-    AnswersAll entries messages × (written ≡ replies_text config entries) × IsUnbroken limits rest × Rose before now
-EndsSo limits config entries messages rest taken written at_end before now WriteFault =
-    Rose before now × (ReplyFailed config entries messages written ⊎ FramingFailed limits config entries messages rest written)
-
--- What was read of the link is messages that frame it and a rest, and the session answered them and ended as it says:
--- its entries are those of the lane and session in the history.
-pub record Session (limits : Limits) (config : Config) (history : List Entry) (lane session : ℕ) (taken left written : List ℕ) (before now : ℕ) (end : SessionEnd) : Type 0 where
-  pub messages : List (List Segment)
-  pub rest : List ℕ
-  pub framed : Framed limits taken messages rest
-  pub ends : EndsSo limits config (entries_of lane session history) messages rest taken written (left ≡ []) before now end
-
--- The history of a run of one session: legal, and all of it this session's.
-pub record IsPast (history : List Entry) (lane session : ℕ) : Type 0 where
-  pub legal : Legal history
-  pub no_other : entries_of lane session history ≡ history
+-- Turn by turn, what was brought and how it ended are the same.
+pub record HaveSameOutcomes (history other : List Entry) : Type 0 where
+  pub outcomes : map (λ e. e.outcome) history ≡ map (λ e. e.outcome) other
+  pub brought : map (λ e. e.brought) history ≡ map (λ e. e.brought) other

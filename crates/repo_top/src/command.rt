@@ -1,6 +1,6 @@
-//! The words as a command.
+//! The arguments as a command.
 ghost use Rattle.std.specs.Prelude.{◌≡◌, ◌≤◌, ◌↔◌, ℕ, IfSome, None, codes, length, get_or, decimal, IsTrue, IsFalse, unwrap_or};
-ghost use Rattle.repo_top.specs.Command.{AreWordsOf, IsCommand, IsService, prefix_of, address_of, port_of, request_limit};
+ghost use Rattle.repo_top.specs.Command.{AreArgumentsOf, IsCommand, IsService, prefix_of, address_of, port_of, request_limit};
 ghost use Rattle.repo_top.specs.Taking.{HasTaken, Refuses, Takes, command_in};
 
 use crate::Words;
@@ -16,23 +16,23 @@ const LEAST_REQUEST: u32 = 64;
 
 const GREATEST_REQUEST: u32 = 16_777_216;
 
-/// The port that Hello tells without the option.
+/// The port that Hello reports without the option.
 const PORT: u16 = 9000;
 
-/// The address that Hello tells without the option.
+/// The address that Hello reports without the option.
 const ADDRESS: &str = "127.0.0.1";
 
-/// The command `answer` with its options.
+/// The command `answer`, its service and its options.
 #[derive(Drop)]
-pub(crate) struct Answer<'a> {
+pub(crate) struct AnswerArguments<'a> {
     pub service: &'a str,
     pub address: Option<&'a str>,
     pub port: Option<u16>,
     pub request: Option<u32>,
 }
 
-impl<'a> Answer<'a> {
-    /// The address that Hello tells.
+impl<'a> AnswerArguments<'a> {
+    /// The address that Hello reports.
     pub fn address(&self) -> &'a str
         ensures { result.now ≡ address_of (command_in self.now) }
     {
@@ -42,7 +42,7 @@ impl<'a> Answer<'a> {
         }
     }
 
-    /// The port that Hello tells.
+    /// The port that Hello reports.
     pub fn port(&self) -> u16
         ensures { result ≡ port_of (command_in self.now) }
     {
@@ -116,67 +116,67 @@ fn port_of(text: &str) -> Option<u16>
     }
 }
 
-// Adds the address to the command, where it has none. Whether it did.
-fn take_address<'a>(answer: &mut Answer<'a>, value: &'a str) -> bool
-    ensures taken { IsTrue result → Takes (command_in answer.old) (command_in answer.new) (codes "--address") value.now }
-    ensures refused { IsFalse result → Refuses (command_in answer.old) (codes "--address") value.now }
+// Adds the address to the command, unless it has one. Whether it did.
+fn take_address<'a>(arguments: &mut AnswerArguments<'a>, value: &'a str) -> bool
+    ensures taken { IsTrue result → Takes (command_in arguments.old) (command_in arguments.new) (codes "--address") value.now }
+    ensures refused { IsFalse result → Refuses (command_in arguments.old) (codes "--address") value.now }
 {
-    if answer.address.is_some() {
+    if arguments.address.is_some() {
         return false;
     }
-    answer.address = Some(value);
+    arguments.address = Some(value);
     true
 }
 
-// Adds the port to the command, where it has none and the value is one. Whether it did.
-fn take_port(answer: &mut Answer<'_>, value: &str) -> bool
-    ensures taken { IsTrue result → Takes (command_in answer.old) (command_in answer.new) (codes "--port") value.now }
-    ensures refused { IsFalse result → Refuses (command_in answer.old) (codes "--port") value.now }
+// Adds the port to the command, unless it has one or the value is none. Whether it did.
+fn take_port(arguments: &mut AnswerArguments<'_>, value: &str) -> bool
+    ensures taken { IsTrue result → Takes (command_in arguments.old) (command_in arguments.new) (codes "--port") value.now }
+    ensures refused { IsFalse result → Refuses (command_in arguments.old) (codes "--port") value.now }
 {
-    if answer.port.is_some() {
+    if arguments.port.is_some() {
         return false;
     }
     let Some(port) = port_of(value) else {
         return false;
     };
-    answer.port = Some(port);
+    arguments.port = Some(port);
     true
 }
 
-// Adds the limit on requests to the command, where it has none and the value is one. Whether it did.
-fn take_request(answer: &mut Answer<'_>, value: &str) -> bool
-    ensures taken { IsTrue result → Takes (command_in answer.old) (command_in answer.new) (codes "--request") value.now }
-    ensures refused { IsFalse result → Refuses (command_in answer.old) (codes "--request") value.now }
+// Adds the limit on requests to the command, unless it has one or the value is none. Whether it did.
+fn take_request(arguments: &mut AnswerArguments<'_>, value: &str) -> bool
+    ensures taken { IsTrue result → Takes (command_in arguments.old) (command_in arguments.new) (codes "--request") value.now }
+    ensures refused { IsFalse result → Refuses (command_in arguments.old) (codes "--request") value.now }
 {
-    if answer.request.is_some() {
+    if arguments.request.is_some() {
         return false;
     }
     let Some(request) = number_of(value, LEAST_REQUEST, GREATEST_REQUEST) else {
         return false;
     };
-    answer.request = Some(request);
+    arguments.request = Some(request);
     true
 }
 
 // Adds the option to the command. Whether it is known, not there yet, and its value in form.
-fn take_option<'a>(answer: &mut Answer<'a>, name: &str, value: &'a str) -> bool
-    ensures taken { IsTrue result → Takes (command_in answer.old) (command_in answer.new) name.now value.now }
-    ensures refused { IsFalse result → Refuses (command_in answer.old) name.now value.now }
+fn take_option<'a>(arguments: &mut AnswerArguments<'a>, name: &str, value: &'a str) -> bool
+    ensures taken { IsTrue result → Takes (command_in arguments.old) (command_in arguments.new) name.now value.now }
+    ensures refused { IsFalse result → Refuses (command_in arguments.old) name.now value.now }
 {
     match name {
-        "--address" => take_address(answer, value),
-        "--port" => take_port(answer, value),
-        "--request" => take_request(answer, value),
+        "--address" => take_address(arguments, value),
+        "--port" => take_port(arguments, value),
+        "--request" => take_request(arguments, value),
         _ => false,
     }
 }
 
-// Adds the options behind the service to the command. Whether all could be.
-fn take_options<'a>(answer: &mut Answer<'a>, words: &'a Words) -> bool
+// Adds the options after the service to the command. Whether all could be.
+fn take_options<'a>(arguments: &mut AnswerArguments<'a>, words: &'a Words) -> bool
     requires some { 2 ≤ length words.now }
-    requires start { HasTaken words.now 2 (command_in answer.old) }
-    ensures service { IsTrue result → answer.new.service.now ≡ answer.old.service.now }
-    ensures taken { IsTrue result → HasTaken words.now (length words.now) (command_in answer.new) }
+    requires start { HasTaken words.now 2 (command_in arguments.old) }
+    ensures service { IsTrue result → arguments.new.service.now ≡ arguments.old.service.now }
+    ensures taken { IsTrue result → HasTaken words.now (length words.now) (command_in arguments.new) }
     ensures refused { IsFalse result → IsCommand words.now → ⊥ }
 {
     let count = words.len();
@@ -185,7 +185,7 @@ fn take_options<'a>(answer: &mut Answer<'a>, words: &'a Words) -> bool
         if count - at < 2 {
             return false;
         }
-        if !take_option(answer, words.item(at).get(), words.item(at + 1).get()) {
+        if !take_option(arguments, words.item(at).get(), words.item(at + 1).get()) {
             return false;
         }
         at += 2;
@@ -193,10 +193,10 @@ fn take_options<'a>(answer: &mut Answer<'a>, words: &'a Words) -> bool
     true
 }
 
-/// The command that the words are, `None` exactly where they are none: `answer SERVICE`, and then pairs of an option and
-/// its value, each option at most once.
-pub(crate) fn command_of(words: &Words) -> Option<Answer<'_>>
-    ensures some { IfSome result (λ a. AreWordsOf (command_in a) words.now) }
+/// The command of the arguments, `None` exactly when the command line is invalid: `answer SERVICE`, and then pairs of an
+/// option and its value, each option at most once.
+pub(crate) fn command_of(words: &Words) -> Option<AnswerArguments<'_>>
+    ensures some { IfSome result (λ a. AreArgumentsOf (command_in a) words.now) }
     ensures none { result ≡ None → IsCommand words.now → ⊥ }
 {
     if words.len() < 2 || words.item(0).get() != "answer" {
@@ -206,14 +206,14 @@ pub(crate) fn command_of(words: &Words) -> Option<Answer<'_>>
     if !is_service(service) {
         return None;
     }
-    let mut answer = Answer {
+    let mut arguments = AnswerArguments {
         service,
         address: None,
         port: None,
         request: None,
     };
-    if take_options(&mut answer, words) {
-        Some(answer)
+    if take_options(&mut arguments, words) {
+        Some(arguments)
     } else {
         None
     }

@@ -1,19 +1,24 @@
-//! The program: the words of the command line, and what each command does with the objects of a host.
+//! The program as a library: the arguments, and what each command does with the objects of a host.
 //!
-//! `run_plain` is the top call. It takes the words and the host, and answers the exit status, what there is to note, and
-//! the objects that the host handed out. `main` makes a real host and calls it. Read `run_plain` first.
+//! `run_plain` is the top call. It takes the arguments and the host, and returns the exit status, what there is to note, and
+//! the objects that the host handed out. `main` makes a real host and calls it. Read `run_plain` first, and its clause
+//! `session`, which says what one session reads, replies and writes; `specs/Run.antt` has its words.
+//!
+//! A contract sees of `Words` the list of the arguments, and of `Ran::past` the list of the entries of the history.
 #![tactic(auto)]
 
+mod alone;
 mod command;
+mod laws;
 mod outcome;
-mod past;
 mod run;
-mod session;
 #[cfg(test)]
 mod tests;
 mod words;
 
-pub use outcome::{Note, Ran, SessionEnd};
-pub use past::Past;
+pub use laws::outcomes_give_the_bytes;
+pub use outcome::{Note, Ran};
+pub use repo_step::Past;
 pub use run::run_plain;
+pub use session_core::SessionEnd;
 pub use words::Words;

@@ -1,35 +1,21 @@
-//! What a run answers.
-use crate::Past;
-use doip_segment::Reason;
+//! What a run leaves.
 use link_core::Host;
+use repo_step::Past;
+use session_core::SessionEnd;
+use std::snapshot::Snapshot;
 
-/// How a session ended.
-#[derive(Clone, Copy, Debug, PartialEq, Eq)]
-pub enum SessionEnd {
-    /// At the link's end, between messages.
-    Ended,
-    /// At the link's end inside a message, behind so many bytes.
-    Cut { place: u64 },
-    /// At bytes that frame no message, up to and with the one at this place.
-    Framing { place: u64, reason: Reason },
-    /// At a read of the link that failed.
-    ReadFault,
-    /// At a write to the link that failed.
-    WriteFault,
-}
-
-/// What there is to say of a run beside its status.
+/// What there is to report of a run beside its status.
 #[derive(Clone, Copy, Debug, PartialEq, Eq)]
 pub enum Note {
     /// Nothing.
     Nothing,
-    /// The words are no command.
+    /// The command line is invalid.
     Words,
     /// The host failed.
     Host,
-    /// There was no memory.
+    /// Out of memory.
     Memory,
-    /// The session ended before the end of its link, or inside a message.
+    /// The session ended inside a message, at bytes that are no message, or at a fault of its link.
     End(SessionEnd),
 }
 
@@ -43,10 +29,12 @@ where
     pub status: u8,
     /// What there is to note.
     pub note: Note,
-    /// The link that the host handed out, where it did.
+    /// The link as the host handed it out, for contracts alone: it has no bytes.
+    pub begun: Option<Snapshot<H::Link>>,
+    /// The link that the host handed out, if it did.
     pub link: Option<H::Link>,
-    /// The end of the session, where there was one.
+    /// The end of the session, if there was one.
     pub end: Option<SessionEnd>,
-    /// The history of the run: that of its session, and empty without one.
+    /// The history of the run: that of its session, and empty without one. It has no bytes.
     pub past: Past,
 }

@@ -1,36 +1,46 @@
 //! The top call.
-ghost use Rattle.std.specs.Prelude.{◌≡◌, ◌≤◌, ◌⊎◌, ◌∷◌, [], List, ℕ, min, IfOk, Some, None};
-ghost use Rattle.link_core.specs.Causes.{Counts, Rose};
+ghost use Rattle.std.specs.Prelude.{◌≡◌, ◌≤◌, ◌⊎◌, [], min, option_map, IfOk, Some, None};
+ghost use Rattle.link_core.specs.Causes.{Rose};
 ghost use Rattle.doip_segment.specs.Decoding.{Took};
-ghost use Rattle.repo_top.specs.Command.{AreWordsOf, IsCommand, IsService, prefix_of, address_of, port_of, request_limit};
+ghost use Rattle.session_core.specs.Report.{report_of};
+ghost use Rattle.repo_step.specs.Setting.{setting_of};
+ghost use Rattle.repo_top.specs.Command.{AreArgumentsOf, IsCommand, IsService, prefix_of, address_of, port_of};
 ghost use Rattle.repo_top.specs.Taking.{command_in};
-ghost use Rattle.repo_top.specs.Run.{AnswersLink, AnswersSession, ServesLink, EndsLink, LinkCounted, CalledOnce, HasPast, HasStatus, IsFaultless, IsSetup, IsStatus, status_at, note_at};
+ghost use Rattle.repo_top.specs.Session.{IsPast, first_state, session_pairs};
+ghost use Rattle.repo_top.specs.Run.{Runs, IsSetUp, IsServed, BeginsFresh, BeginsWithFirst, LinkCounted, CalledOnce, HasStatus, IsFaultless, status_at, note_at};
 
-use crate::command::{Answer, command_of, prefix_of};
-use crate::session::serve;
-use crate::{Note, Past, Ran, SessionEnd, Words};
+use crate::alone::Alone;
+use crate::command::{AnswerArguments, command_of, prefix_of};
+use crate::{Note, Ran, Words};
 use dobj_model::Id;
 use doip_json::Str;
 use doip_segment::{Decoder, Limits};
-use link_core::{Host, HostFault};
-use repo_step::Config;
-use session_core::Reader;
+use link_core::{Host, HostFault, Link};
+use repo_step::{Config, Past};
+use session_core::{Reader, SessionEnd, a_session_that_reports, serve};
 use std::alloc::{AllocError, Global};
+use std::snapshot::Snapshot;
 
-/// The most bytes that a JSON segment has, where the limit on requests isn't lower.
+/// The most bytes of a JSON segment, unless the limit on requests is lower.
 const JSON_LIMIT: u32 = 1_048_576;
 
-// What a run needs before it asks the host for anything.
+/// The lane of the one session of `answer`, and its number in that lane.
+const LANE: u32 = 0;
+
+const SESSION: u64 = 0;
+
+// All that a session needs before it has a link: how the repository is set up, and the memory for requests.
 #[derive(Drop)]
-struct Setup {
+struct Prepared {
     config: Config,
     reader: Reader,
     decoder: Decoder,
 }
 
-// How a repository is set up by the command.
-fn config_of(alloc: Global, command: &Answer<'_>) -> Result<Config, AllocError>
-    requires { IsService command.now.service.now }
+// How the command sets up a repository.
+fn config_of(alloc: Global, command: &AnswerArguments<'_>) -> Result<Config, AllocError>
+    requires service { IsService command.now.service.now }
+    requires port { 1 ≤ port_of (command_in command.now) }
     ensures service { IfOk result (λ config. config.service ≡ command.now.service.now) }
     ensures prefix { IfOk result (λ config. config.prefix ≡ prefix_of command.now.service.now) }
     ensures address { IfOk result (λ config. config.address ≡ address_of (command_in command.now)) }
@@ -47,13 +57,17 @@ fn config_of(alloc: Global, command: &Answer<'_>) -> Result<Config, AllocError>
     }
 }
 
-// All memory that a session needs beside that of its replies.
-fn setup_of(alloc: Global, words: &Words, command: &Answer<'_>) -> Result<Setup, AllocError>
-    requires { AreWordsOf (command_in command.now) words.now }
-    ensures is_setup { IfOk result (λ s. IsSetup words.now s.config s.decoder.limits) }
-    ensures held { IfOk result (λ s. s.reader ≡ []) }
-    ensures took { IfOk result (λ s. Took s.decoder []) }
-    ensures place { IfOk result (λ s. s.decoder.taken ≡ 0) }
+// Takes all the memory that a session needs beside that of its replies.
+fn prepare(
+    alloc: Global,
+    words: &Words,
+    command: &AnswerArguments<'_>,
+) -> Result<Prepared, AllocError>
+    requires { AreArgumentsOf (command_in command.now) words.now }
+    ensures set_up { IfOk result (λ p. IsSetUp words.now (setting_of p.config) p.decoder.limits) }
+    ensures held { IfOk result (λ p. p.reader ≡ []) }
+    ensures took { IfOk result (λ p. Took p.decoder []) }
+    ensures place { IfOk result (λ p. p.decoder.taken ≡ 0) }
 {
     let total = command.request();
     let limits = Limits {
@@ -63,19 +77,41 @@ fn setup_of(alloc: Global, words: &Words, command: &Answer<'_>) -> Result<Setup,
     let config = config_of(alloc, command)?;
     let reader = Reader::new(alloc)?;
     let decoder = Decoder::new(alloc, limits)?;
-    Ok(Setup {
+    Ok(Prepared {
         config,
         reader,
         decoder,
     })
 }
 
+// Serves the link to the end of its session: the link, the end, and the history.
+fn serve_link<L: Link>(alloc: Global, prepared: Prepared, link: L) -> (L, SessionEnd, Past)
+    requires held { prepared.reader ≡ [] }
+    requires took { Took prepared.decoder [] }
+    requires place { prepared.decoder.taken ≡ 0 }
+    ensures past { IsPast (setting_of prepared.config) 0 0 result.2 }
+    ensures served { IsServed prepared.decoder.limits (session_pairs (setting_of prepared.config) first_state 0 0 result.2)
+        (report_of L.Link link) (report_of L.Link result.0) result.1 }
+{
+    a_session_that_reports();
+    let Prepared {
+        config,
+        mut reader,
+        decoder,
+    } = prepared;
+    let mut link = link;
+    let mut alone = Alone::new(alloc, &config, LANE, SESSION);
+    let (_, _, end) = serve(&mut link, &mut reader, decoder, Vec::new(alloc), &mut alone);
+    (link, end, alone.into_past())
+}
+
 // A run that ended before any session.
-fn stopped<H: Host>(status: u8, note: Note) -> Ran<H>
+fn ended_early<H: Host>(status: u8, note: Note) -> Ran<H>
 where
     H::Link: Drop,
     ensures status { result.status ≡ status }
     ensures note { result.note ≡ note }
+    ensures begun { result.begun ≡ None }
     ensures link { result.link ≡ None }
     ensures end { result.end ≡ None }
     ensures past { result.past ≡ [] }
@@ -83,9 +119,10 @@ where
     Ran {
         status,
         note,
+        begun: None,
         link: None,
         end: None,
-        past: Past::none(),
+        past: Past::empty(),
     }
 }
 
@@ -101,33 +138,34 @@ fn status_of(end: SessionEnd) -> (u8, Note)
     }
 }
 
-/// Runs the command that the words are.
+/// Runs the command of the arguments.
 ///
 /// | status | comes | note |
 /// |---|---|---|
-/// | 2 | exactly where the words are no command | `Words` |
-/// | 9 | only where the host's count of faults rose | `Host` |
-/// | 7 | only where the link's count of faults rose | `End` |
-/// | 4 | for want of memory, outside the replies | `Memory` |
+/// | 2 | exactly when the command line is invalid | `Words` |
+/// | 9 | only if the host's count of faults rose | `Host` |
+/// | 7 | only if the link's count of faults rose | `End` |
+/// | 4 | out of memory before the session | `Memory` |
 /// | 0 | otherwise | `End` after a cut or a framing fault, else `Nothing` |
 ///
-/// The words are `answer SERVICE [--address A] [--port N] [--request N]`: a service of 1 to 255 bytes, of which at most 200
-/// stand before the first `/`, and then options in any order, each at most once; a port from 1 to 65,535, a limit on the
-/// bytes of a request from 64 to 16,777,216. It answers each message on the host's console in order. Words that are no
-/// command leave the host as it was.
+/// The arguments are `answer SERVICE [--address A] [--port N] [--request N]`: a service of 1 to 255 bytes, of which at most
+/// 200 come before the first `/`, and then options in any order, each at most once; a port from 1 to 65,535, a limit on the
+/// bytes of a request from 64 to 16,777,216. It replies to each message on the host's console, in order. An invalid
+/// command line leaves the host as it was.
 pub fn run_plain<H: Host>(alloc: Global, words: &Words, host: &mut H) -> Ran<H>
 where
     H::Link: Drop,
-    // Whatever bytes the session brings and in whatever pieces, its requests are those that the grammar frames, and what is
-    // written are the replies of one history of the one-thread repository, or a front of them where the link failed.
-    ensures session { (input : List ℕ) (others : List (List ℕ)) → H.consoles host.old ≡ Some (input ∷ others) →
-        AnswersSession H.Link.taken H.Link.left H.Link.written H.Link.faults words.now input result.past result.link result.end }
-    ensures past { HasPast result.link result.past }
+    // However the input is cut into reads, the messages are those that the grammar defines, and what is written are, in
+    // order, the texts of the replies of one history of the one-thread repository, or a prefix of them if the link failed.
+    ensures session { Runs H.Link.Link words.now result.past (option_map (λ s. s.value) result.begun) result.link result.end }
+    ensures fresh { BeginsFresh H.Link.Link (option_map (λ s. s.value) result.begun) }
+    ensures told { BeginsWithFirst H.Link.Link (H.consoles host.old) (option_map (λ s. s.value) result.begun) }
 
-    // Each status has its cause, and where no fault was counted a command has status 0, or 4 for want of memory.
-    ensures status { HasStatus H.Link.faults words.now (H.faults host.old) (H.faults host.new) result.status result.note result.link result.end }
-    ensures complete { IsCommand words.now → ¬ Rose (H.faults host.old) (H.faults host.new) → IsFaultless H.Link.faults result.link →
-        (result.status ≡ 0) ⊎ (result.status ≡ 4) }
+    // Each status has its cause, and if no fault was counted a command has status 0, or 4 when out of memory.
+    ensures status { HasStatus H.Link.faults words.now (H.faults host.old) (H.faults host.new) result.status result.note
+        result.link result.end }
+    ensures complete { IsCommand words.now → ¬ Rose (H.faults host.old) (H.faults host.new)
+        → IsFaultless H.Link.faults result.link → (result.status ≡ 0) ⊎ (result.status ≡ 4) }
 
     // `console` is called once at most, and what it handed out is returned.
     ensures link { LinkCounted (H.links host.old) (H.links host.new) result.link }
@@ -135,56 +173,24 @@ where
     ensures untouched { ¬ IsCommand words.now → host.new ≡ host.old }
 {
     let Some(command) = command_of(words) else {
-        return stopped(2, Note::Words);
+        return ended_early(2, Note::Words);
     };
-    match setup_of(alloc, words, &command) {
-        Ok(setup) => run_answer(alloc, setup, host),
-        Err(AllocError) => stopped(4, Note::Memory),
-    }
-}
-
-// Answers the messages on the host's console.
-fn run_answer<H: Host>(alloc: Global, setup: Setup, host: &mut H) -> Ran<H>
-where
-    H::Link: Drop,
-    requires held { setup.reader ≡ [] }
-    requires took { Took setup.decoder [] }
-    requires place { setup.decoder.taken ≡ 0 }
-    ensures session { (input : List ℕ) (others : List (List ℕ)) → H.consoles host.old ≡ Some (input ∷ others) →
-        AnswersLink H.Link.taken H.Link.left H.Link.written H.Link.faults setup.config setup.decoder.limits input result.past result.link result.end }
-    ensures past { HasPast result.link result.past }
-    ensures status { IsStatus H.Link.faults (H.faults host.old) (H.faults host.new) result.status result.note result.link result.end }
-    ensures link { LinkCounted (H.links host.old) (H.links host.new) result.link }
-    ensures calls { Counts (H.console_calls host.old) (H.console_calls host.new) }
-{
-    match host.console() {
-        Ok(link) => answer_link(alloc, setup, link),
-        Err(HostFault::Failed) => stopped(9, Note::Host),
-        Err(HostFault::Memory) => stopped(4, Note::Memory),
-    }
-}
-
-// Answers the messages of a link.
-fn answer_link<H: Host>(alloc: Global, setup: Setup, link: H::Link) -> Ran<H>
-where
-    H::Link: Drop,
-    requires held { setup.reader ≡ [] }
-    requires took { Took setup.decoder [] }
-    requires place { setup.decoder.taken ≡ 0 }
-    ensures served { ServesLink H.Link.taken H.Link.left H.Link.written H.Link.faults setup.config setup.decoder.limits link result.past result.link result.end }
-    ensures ends { EndsLink H.Link.faults link result.status result.note result.link result.end }
-{
-    let Setup {
-        config,
-        mut reader,
-        mut decoder,
-    } = setup;
-    let mut link = link;
-    let (end, past) = serve(alloc, &config, &mut reader, &mut decoder, &mut link);
+    let prepared = match prepare(alloc, words, &command) {
+        Ok(prepared) => prepared,
+        Err(AllocError) => return ended_early(4, Note::Memory),
+    };
+    let link = match host.console() {
+        Ok(link) => link,
+        Err(HostFault::Failed) => return ended_early(9, Note::Host),
+        Err(HostFault::Memory) => return ended_early(4, Note::Memory),
+    };
+    let begun = Snapshot::of(&link);
+    let (link, end, past) = serve_link(alloc, prepared, link);
     let (status, note) = status_of(end);
     Ran {
         status,
         note,
+        begun: Some(begun),
         link: Some(link),
         end: Some(end),
         past,

@@ -11,13 +11,13 @@ const HELLO: &[u8] = b"{\"operationId\":\"0.DOIP/Op.Hello\",\"targetId\":\"35.TE
 const DONE: &[u8] =
     b"{\"output\":{\"attributes\":{\"ipAddress\":\"127.0.0.1\",\"port\":9000,\"protocol\":\"TCP\",\"protocolVersion\":\"2.0\"},\"id\":\"35.TEST/svc\",\"type\":\"0.TYPE/DOIPServiceInfo\"},\"status\":\"0.DOIP/Status.001\"}\n#\n#\n";
 
-const MARKED: &[u8] =
+const DONE_WITH_ID: &[u8] =
     b"{\"output\":{\"attributes\":{\"ipAddress\":\"127.0.0.1\",\"port\":9000,\"protocol\":\"TCP\",\"protocolVersion\":\"2.0\"},\"id\":\"35.TEST/svc\",\"type\":\"0.TYPE/DOIPServiceInfo\"},\"requestId\":\"a\",\"status\":\"0.DOIP/Status.001\"}\n#\n#\n";
 
 const FRAMING: &[u8] =
     b"{\"attributes\":{\"message\":\"framing fault\"},\"status\":\"0.DOIP/Status.101\"}\n#\n#\n";
 
-fn words(alloc: Global, texts: &[&str]) -> Result<Words, AllocError> {
+fn arguments(alloc: Global, texts: &[&str]) -> Result<Words, AllocError> {
     let mut words = Words::empty(alloc);
     for text in texts {
         words.push(Str::of(alloc, text)?)?;
@@ -37,7 +37,7 @@ fn joined(alloc: Global, texts: &[&[u8]]) -> Result<Vec<u8>, AllocError> {
 fn run(alloc: Global, texts: &[&str], link: MemoryLink) -> Result<Ran<MemoryHost>, Fail> {
     let mut host = MemoryHost::new(alloc, Vec::new(alloc));
     host.add_console(link)?;
-    let words = words(alloc, texts)?;
+    let words = arguments(alloc, texts)?;
     Ok(run_plain(alloc, &words, &mut host))
 }
 
@@ -58,7 +58,7 @@ fn written(ran: &Ran<MemoryHost>) -> &[u8] {
 }
 
 #[test]
-fn worked_rows_are_answered(rt: HostRuntime) -> Result<(), Fail> {
+fn worked_rows_have_their_replies(rt: HostRuntime) -> Result<(), Fail> {
     let alloc = rt.alloc();
     let refused: &[(&[u8], &[u8])] = &[
         (
@@ -93,7 +93,7 @@ fn worked_rows_are_answered(rt: HostRuntime) -> Result<(), Fail> {
     let lenient =
         b"{\n  \"requestId\": \"a\",\n  \"clientId\": \"me\",\n  \"targetId\": \"35.TEST/svc\",\n  \"operationId\": \"0.DOIP/Op.Hello\",\n  \"attributes\": {},\n  \"extra\": [1]\n}\n#\r\n#\r\n";
     let ran = answer(alloc, lenient)?;
-    assert_eq!(rt; written(&ran), MARKED);
+    assert_eq!(rt; written(&ran), DONE_WITH_ID);
     let none = answer(alloc, b"")?;
     assert_eq!(rt;
         (none.status, none.end, written(&none)),
@@ -103,7 +103,7 @@ fn worked_rows_are_answered(rt: HostRuntime) -> Result<(), Fail> {
 }
 
 #[test]
-fn hello_is_answered_in_any_pieces(rt: HostRuntime) -> Result<(), Fail> {
+fn hello_has_its_reply_in_any_pieces(rt: HostRuntime) -> Result<(), Fail> {
     let alloc = rt.alloc();
     for length in 1..HELLO.len() {
         let mut lengths = Vec::from_slice(alloc, &[length])?;
@@ -196,7 +196,7 @@ fn two_sessions_run_one_after_another(rt: HostRuntime) -> Result<(), Fail> {
     let mut host = MemoryHost::new(alloc, Vec::new(alloc));
     host.add_console(MemoryLink::of(alloc, HELLO)?)?;
     host.add_console(MemoryLink::of(alloc, HELLO)?)?;
-    let words = words(alloc, &["answer", "35.TEST/svc"])?;
+    let words = arguments(alloc, &["answer", "35.TEST/svc"])?;
     for _ in 0..2 {
         let ran = run_plain(alloc, &words, &mut host);
         assert_eq!(rt; (ran.status, written(&ran)), (0, DONE));
@@ -208,9 +208,9 @@ fn two_sessions_run_one_after_another(rt: HostRuntime) -> Result<(), Fail> {
 }
 
 #[test]
-fn faulty_words_are_told(rt: HostRuntime) -> Result<(), Fail> {
+fn an_invalid_command_line_is_refused(rt: HostRuntime) -> Result<(), Fail> {
     let alloc = rt.alloc();
-    let faulty: &[&[&str]] = &[
+    let invalid: &[&[&str]] = &[
         &[],
         &["answer"],
         &["answer", ""],
@@ -225,7 +225,7 @@ fn faulty_words_are_told(rt: HostRuntime) -> Result<(), Fail> {
         &["answer", "s", "--request", "16777217"],
         &["answer", "s", "--lanes", "1"],
     ];
-    for texts in faulty {
+    for texts in invalid {
         let ran = run(alloc, texts, MemoryLink::of(alloc, HELLO)?)?;
         assert_eq!(rt; (ran.status, ran.note, ran.end), (2, Note::Words, None));
         assert!(rt; ran.link.is_none());

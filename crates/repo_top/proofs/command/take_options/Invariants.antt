@@ -9,6 +9,6 @@ decreases-loop-at l = l.count - l.at
 abbrev pub invariant-loop-at : goal.invariant-loop-at
 invariant-loop-at l = record {
   most : l.at ≤ l.count;
-  taken : HasTaken l.words l.at (command_in l.answer);
-  service : l.answer.service.now ≡ l.fn.answer.service.now;
+  taken : HasTaken l.words l.at (command_in l.arguments);
+  service : l.arguments.service.now ≡ l.fn.arguments.service.now;
 }

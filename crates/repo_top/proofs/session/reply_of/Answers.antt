@@ -1,8 +1,0 @@
-use Rattle.doip_message.specs.Reply.{replied_of}
-use Rattle.repo_top.proofs.Replies.{can_follow}
-use Rattle.repo_top.proofs.session.reply_of.Goals as goal
-
-pub encode-requires : goal.encode-requires
-encode-requires c =
-    c.in_ok-message.ensures.encodable
-    (can_follow c.args.config.now c.args.message.now.segments (replied_of c.in_ok-planned.planned.response) c.in_ok-planned.ensures)
