@@ -11,9 +11,9 @@ use Rattle.doip_segment.specs.declared.phase.Phase.TheVariants.{Due, Text, LineS
 use Rattle.doip_segment.specs.Segments.{Segment}
 use Rattle.doip_segment.specs.Grammar.{IsWhite, Part, part_bytes, segment_of_part}
 use Rattle.doip_segment.specs.Framing.{Spelt}
-use Rattle.doip_segment.specs.Machine.{run, is_done, Reading, start}
+use Rattle.doip_segment.specs.Machine.{run, is_done, Reading, start, outcome_of, end_of}
 use Rattle.doip_segment.specs.declared.outcome.End.TheVariants as ends
-use Rattle.doip_segment.specs.Decoding.{Decoding, Took, EndsBetween, outcome_of, end_of}
+use Rattle.doip_segment.specs.Decoding.{Decoding, Took, EndsBetween, IsPlaced}
 use Rattle.doip_segment.proofs.WalkLemmas.{Core, core, white_walk}
 use Rattle.doip_segment.proofs.TellLemmas.{told_at}
 use Rattle.doip_segment.proofs.CleanLemmas.{go, core_go, reach, clean_live}
@@ -152,21 +152,56 @@ between_is DataEnd segments taken e = absurd (cc)
 between_is BytesEnd segments taken e = absurd (cc)
 between_is MessageEnd segments taken e = absurd (cc)
 
+-- where more is needed no fault stands
+more_free : (p : Phase) (taken : ℕ) → outcome_of p taken ≡ steps.More → (reason : Reason) → p ≡ Stuck reason → ⊥
+more_free p taken none reason stuck = let e = sym none ∙ ap (λ q. outcome_of q taken) stuck in cc
+
 -- a session ends between messages where a message stands, or where no fault does and only white bytes came since the last one
 pub ends_between : (d : Decoding) (came : List ℕ) → Took d came → end_of d.reading.phase d.reading.segments d.taken ≡ ends.Between → EndsBetween d came
 ends_between d came took e =
-    let counted = sym (ap (λ (x : Reading). x.count) took.0) ∙ took.1 in
+    let counted = sym (ap (λ (x : Reading). x.count) took.reading) ∙ took.count in
     elim (between_is d.reading.phase d.reading.segments d.taken e) [
-      | inl whole ↦ inl whole
+      | inl whole ↦ inl (took.shows.standing ∙ ap (λ p. outcome_of p d.taken) whole)
       | inr due ↦ inr (
-        (λ reason stuck. let h : Due ≡ Stuck reason = sym due.0 ∙ stuck in cc),
-        white_told d.limits came counted (sym (ap (λ (x : Reading). x.phase) took.0) ∙ due.0) (sym (ap (λ (x : Reading). x.segments) took.0) ∙ due.1),
+        took.shows.standing ∙ ap (λ p. outcome_of p d.taken) due.0,
+        white_told d.limits came counted (sym (ap (λ (x : Reading). x.phase) took.reading) ∙ due.0) (sym (ap (λ (x : Reading). x.segments) took.reading) ∙ due.1),
       )
     ]
 
+-- where a message stands the machine has read a whole one
+message_whole : (p : Phase) (taken : ℕ) → outcome_of p taken ≡ steps.Message → p ≡ Whole
+message_whole Whole taken e = refl
+message_whole (Stuck reason) taken e = absurd (cc)
+message_whole _ taken e = absurd (cc)
+
 pub between_ends : (d : Decoding) (came : List ℕ) → Took d came → EndsBetween d came → end_of d.reading.phase d.reading.segments d.taken ≡ ends.Between
-between_ends d came took (inl whole) = ap (λ p. end_of p d.reading.segments d.taken) whole
+between_ends d came took (inl stands) = ap (λ p. end_of p d.reading.segments d.taken) (message_whole d.reading.phase d.taken (sym took.shows.standing ∙ stands))
 between_ends d came took (inr white) =
-    let counted = sym (ap (λ (x : Reading). x.count) took.0) ∙ took.1 in
-    let reads = white_reads d.limits came counted white.1 (λ reason stuck. white.0 reason (ap (λ (x : Reading). x.phase) took.0 ∙ stuck)) in
-    ap (λ p. end_of p d.reading.segments d.taken) (ap (λ (x : Reading). x.phase) took.0 ∙ reads.0) ∙ ap (λ ss. end_of Due ss d.taken) (ap (λ (x : Reading). x.segments) took.0 ∙ reads.1)
+    let counted = sym (ap (λ (x : Reading). x.count) took.reading) ∙ took.count in
+    let reads = white_reads d.limits came counted white.1 (λ reason stuck. more_free d.reading.phase d.taken (sym took.shows.standing ∙ white.0) reason (ap (λ (x : Reading). x.phase) took.reading ∙ stuck)) in
+    ap (λ p. end_of p d.reading.segments d.taken) (ap (λ (x : Reading). x.phase) took.reading ∙ reads.0) ∙ ap (λ ss. end_of Due ss d.taken) (ap (λ (x : Reading). x.segments) took.reading ∙ reads.1)
+
+-- inside a message the number of bytes taken is told
+pub inside_place : (p : Phase) (segments : List Segment) (taken place : ℕ) → ends.Inside place ≡ end_of p segments taken → place ≡ taken
+inside_place Whole segments taken place e = absurd (cc)
+inside_place Due [] taken place e = absurd (cc)
+inside_place Due (s ∷ ss) taken place e = cc
+inside_place _ segments taken place e = cc
+
+-- a fault's place is the number of bytes taken
+pub placed : (p : Phase) (taken : ℕ) → IsPlaced (outcome_of p taken) taken
+placed Whole taken = tt
+placed (Stuck reason) taken = refl
+placed _ taken = tt
+
+-- where a message or a fault stands nothing more is read
+pub stood_done : (p : Phase) (taken : ℕ) → (outcome_of p taken ≡ steps.More → ⊥) → is_done p ≡ true
+stood_done Whole taken stands = refl
+stood_done (Stuck reason) taken stands = refl
+stood_done _ taken stands = absurd (stands refl)
+
+-- where more is needed nothing is done
+pub more_live : (p : Phase) (taken : ℕ) → outcome_of p taken ≡ steps.More → is_done p ≡ false
+more_live Whole taken e = absurd (cc)
+more_live (Stuck reason) taken e = absurd (cc)
+more_live _ taken e = refl

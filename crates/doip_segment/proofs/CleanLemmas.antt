@@ -14,7 +14,7 @@ use Rattle.doip_segment.specs.declared.phase.Phase.TheVariants.{Due, Text, LineS
 use Rattle.doip_segment.specs.Segments.{segment}
 use Rattle.doip_segment.specs.Framing.{HoldsLimit}
 use Rattle.doip_segment.specs.Machine.{class_of, data_due, next_phase, added, closed, kept, limit_fault, passes_json, stepped, stepped_within, advanced, run, is_done, Reading, start}
-use Rattle.doip_segment.specs.Decoding.{opened}
+use Rattle.doip_segment.specs.Advance.{opened}
 use Rattle.doip_segment.proofs.FitLemmas.{closes, opened_step, few_step, none_left, IsLetIn}
 use Rattle.doip_segment.proofs.WalkLemmas.{Core, core, walk}
 use Rattle.doip_segment.proofs.TellLemmas.{all_push}

@@ -12,7 +12,7 @@ use Rattle.doip_segment.specs.declared.phase.Phase.{Phase}
 use Rattle.doip_segment.specs.declared.phase.Phase.TheVariants.{Due, Text, LineStart, JsonEnd, BytesStart, ChunkDue, Digits, Padding, Data, DataEnd, BytesEnd, MessageEnd, Whole, Stuck}
 use Rattle.doip_segment.specs.Segments.{Segment}
 use Rattle.doip_segment.specs.Grammar.{IsWhite, IsSpelling}
-use Rattle.doip_segment.specs.Decoding.{opened}
+use Rattle.doip_segment.specs.Advance.{opened}
 use Rattle.doip_segment.specs.Framing.{AtSegment, Spelt, IsTooLong, IsJsonTooLong, IsTooMany, IsUngrammatical, BreaksGrammar, IsFault, BehindData, ChunkIsDue, BehindDigits, Broken, IsUnfinished}
 use Rattle.doip_segment.specs.Machine.{class_of, data_due, next_phase, marker, after_digits, limit_fault, passes_json, begins, run, is_done, Reading, start}
 use Rattle.doip_segment.proofs.ClassLemmas.{Classified, classified, classified_as}

@@ -13,7 +13,7 @@ use Rattle.doip_segment.specs.declared.phase.Phase.TheVariants.{Due, Text, LineS
 use Rattle.doip_segment.specs.Segments.{Segment, segment}
 use Rattle.doip_segment.specs.Framing.{HoldsLimit, Spelt}
 use Rattle.doip_segment.specs.Machine.{class_of, data_due, next_phase, added, closed, kept, limit_fault, passes_json, begins, stepped, stepped_within, run, is_done, Reading, start}
-use Rattle.doip_segment.specs.Decoding.{opened}
+use Rattle.doip_segment.specs.Advance.{opened}
 use Rattle.doip_segment.proofs.RunLemmas.{run-append}
 use Rattle.doip_segment.proofs.WalkLemmas.{Core, core, moved, walk, spelling_walk, stuck_walk}
 use Rattle.doip_segment.proofs.CleanLemmas.{go, core_of, core_go, count_go, Clean, run_done, live_step}

@@ -1,5 +1,5 @@
 -- Messages in a stream of bytes: spellings within the limits, the messages that a stream begins with, and where the rest of it breaks.
-use Rattle.std.specs.Prelude.{◌≡◌, ◌≢◌, ℕ, ◌+◌, ◌≤◌, ◌<◌, ◌⊎◌, List, [], ◌∷◌, ◌++◌, length, false}
+use Rattle.std.specs.Prelude.{◌≡◌, ◌≢◌, ℕ, ◌+◌, ◌-◌, ◌^◌, ◌≤◌, ◌<◌, ◌⊎◌, List, [], ◌∷◌, ◌++◌, length, min, false}
 use Rattle.std.specs.List.{flat_map, AllByRecursion}
 use Rattle.doip_segment.specs.declared.kind.Kind.{Kind}
 use Rattle.doip_segment.specs.declared.kind.Kind.TheVariants as kinds
@@ -123,7 +123,23 @@ pub record Broken (limits : Limits) (bytes : List ℕ) (place : ℕ) (reason : R
   pub fault : IsFault limits front byte reason
   pub first : (before : List ℕ) (b : ℕ) (after : List ℕ) (other : Reason) → bytes ≡ before ++ b ∷ after → length before < length front → IsFault limits before b other → ⊥
 
--- No front of the bytes is a message, and they break nowhere: more bytes are needed.
+-- the bytes break nowhere
+abbrev pub IsUnbroken : Limits → List ℕ → Type 0
+IsUnbroken limits bytes = (place : ℕ) (reason : Reason) → Broken limits bytes place reason → ⊥
+
+-- No prefix of the bytes is a message, and they break nowhere: more bytes are needed.
 pub record IsUnfinished (limits : Limits) (bytes : List ℕ) : Type 0 where
   pub unspelt : NothingSpelt limits bytes
-  pub unbroken : (place : ℕ) (reason : Reason) → Broken limits bytes place reason → ⊥
+  pub unbroken : IsUnbroken limits bytes
+
+-- a number of a session's bytes as it is told: at most 2^64 - 1
+abbrev pub told : ℕ → ℕ
+told n = min n (2 ^ 64 - 1)
+
+-- The rest of a session's bytes breaks for this reason, at this place of the session, counted from 1 at its first byte.
+pub record BreaksSession (limits : Limits) (bytes rest : List ℕ) (place : ℕ) (reason : Reason) : Type 0 where
+  pub before : ℕ
+  pub at : ℕ
+  pub all : before + length rest ≡ length bytes
+  pub breaks : Broken limits rest at reason
+  pub is : place ≡ told (before + at)

@@ -7,6 +7,10 @@ use Rattle.doip_segment.specs.declared.class.Class.TheVariants.{LineFeed, Blank,
 use Rattle.doip_segment.specs.declared.outcome.Limits.{Limits}
 use Rattle.doip_segment.specs.declared.outcome.Reason.{Reason}
 use Rattle.doip_segment.specs.declared.outcome.Reason.TheVariants as reasons
+use Rattle.doip_segment.specs.declared.outcome.End.{End}
+use Rattle.doip_segment.specs.declared.outcome.End.TheVariants as ends
+use Rattle.doip_segment.specs.declared.outcome.Step.{Step}
+use Rattle.doip_segment.specs.declared.outcome.Step.TheVariants as steps
 use Rattle.doip_segment.specs.declared.phase.Phase.{Phase}
 use Rattle.doip_segment.specs.declared.phase.Phase.TheVariants.{Due, Text, LineStart, JsonEnd, BytesStart, ChunkDue, Digits, Padding, Data, DataEnd, BytesEnd, MessageEnd, Whole, Stuck}
 use Rattle.doip_segment.specs.Segments.{Segment, segment}
@@ -148,3 +152,15 @@ IsInRange (Digits count value) = (count ≤ 10) × (value < 10 ^ count)
 IsInRange (Padding value) = value < 10 ^ 10
 IsInRange (Data left) = (0 < left) × (left < 10 ^ 10)
 IsInRange _ = Unit {0}
+
+-- what stands, as a result of feed
+abbrev pub outcome_of : Phase → ℕ → Step
+outcome_of Whole taken = steps.Message
+outcome_of (Stuck reason) taken = steps.Fault taken reason
+outcome_of _ taken = steps.More
+
+-- where the session ends if no byte more comes
+abbrev pub end_of : Phase → List Segment → ℕ → End
+end_of Whole segments taken = ends.Between
+end_of Due [] taken = ends.Between
+end_of _ segments taken = ends.Inside taken

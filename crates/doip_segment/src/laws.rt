@@ -8,6 +8,7 @@ ghost use Rattle.doip_segment.specs.Grammar.{IsSpelling};
 ghost use Rattle.doip_segment.specs.Canonical.{AreEncodable, canonical};
 ghost use Rattle.doip_segment.specs.Framing.{IsWithin, Framed, Broken};
 ghost use Rattle.doip_segment.specs.declared.outcome.Step.TheVariants.{More};
+ghost use Rattle.doip_segment.specs.Decoding.{Decoding, Took, Frames};
 ghost use Rattle.doip_segment.specs.Session.{Call, IsSession, bytes_of, messages_of, rest_of, Ends};
 
 /// No spelling is a proper front of another, and each is a spelling of one message.
@@ -46,14 +47,19 @@ pub fn what_is_written_is_read()
         → (later : List (List Segment)) × (messages ≡ message ∷ later) × Framed limits behind later rest }
 {}
 
+/// What stands in a decoder is what the bytes since its last message are.
+pub fn what_stands_is_what_came()
+    ensures { (d : Decoding) (came : List ℕ) → Took d came → Frames d.limits came [] 0 d.standing d }
+{}
+
 /// However a session is cut into pieces, its messages and its rest are those of the bytes taken, joined. It ends at a
-/// fault exactly where the rest breaks, for that reason.
+/// fault exactly when the rest breaks, at that place of the session's bytes and for that reason.
 pub fn pieces_do_not_matter()
-    ensures framed { (limits : Limits) (calls : List Call) → IsSession limits [] calls
+    ensures framed { (limits : Limits) (calls : List Call) → IsSession limits [] 0 calls
         → Framed limits (bytes_of calls) (messages_of calls) (rest_of [] calls) }
-    ensures ends { (limits : Limits) (calls : List Call) → IsSession limits [] calls
-        → Ends limits (rest_of [] calls) More calls }
+    ensures ends { (limits : Limits) (calls : List Call) → IsSession limits [] 0 calls
+        → Ends limits (bytes_of calls) (rest_of [] calls) More calls }
     ensures same { (limits : Limits) (calls others : List Call)
-        → IsSession limits [] calls → IsSession limits [] others → bytes_of calls ≡ bytes_of others
+        → IsSession limits [] 0 calls → IsSession limits [] 0 others → bytes_of calls ≡ bytes_of others
         → (messages_of calls ≡ messages_of others) × (rest_of [] calls ≡ rest_of [] others) }
 {}
