@@ -1,4 +1,4 @@
--- What the decoder answers, from what it has read.
+-- What the decoder returns, from what it has read.
 use Rattle.std.proofs.Common.{◌≡◌, ℕ, ◌+◌, ◌≤◌, ◌<◌, List, [], ◌++◌, length, take, drop, false, refl, sym, ap, ◌∙◌, subst, arith, append_assoc, length-append}
 use Rattle.std.proofs.lemmas.List.{append-nil, take-append-drop, take_all, length-take-le}
 use Rattle.doip_segment.specs.declared.outcome.Limits.{Limits}

@@ -10,20 +10,20 @@ use Rattle.doip_segment.specs.Decoding.{Decoding, Frames}
 use Rattle.doip_segment.specs.Session.{Call, came_after, IsSession, bytes_of, messages_of, rest_of, EndsAt, Ends}
 use Rattle.doip_segment.proofs.LawLemmas.{spelling_some, one_framing}
 
--- a front of bytes that begin with no message begins with none
-unspelt_front : (limits : Limits) (front behind : List ℕ) → NothingSpelt limits (front ++ behind) → NothingSpelt limits front
-unspelt_front limits front behind none f b message e spelt = none f (b ++ behind) message (ap (λ x. x ++ behind) e ∙ append_assoc f b behind) spelt
+-- a prefix of bytes that begin with no message begins with none
+unspelt_prefix : (limits : Limits) (prefix after : List ℕ) → NothingSpelt limits (prefix ++ after) → NothingSpelt limits prefix
+unspelt_prefix limits prefix after none f b message e spelt = none f (b ++ after) message (ap (λ x. x ++ after) e ∙ append_assoc f b after) spelt
 
 -- no bytes are no message
 pub empty_unspelt : (limits : Limits) → NothingSpelt limits []
-empty_unspelt limits front behind message e spelt =
-    let some = spelling_some front message spelt.spelling in
-    let size = ap length e ∙ length-append front behind in
+empty_unspelt limits prefix after message e spelt =
+    let some = spelling_some prefix message spelt.spelling in
+    let size = ap length e ∙ length-append prefix after in
     omega (arith, some, size)
 
 empty_unbroken : (limits : Limits) (place : ℕ) (reason : Reason) → Broken limits [] place reason → ⊥
 empty_unbroken limits place reason broken =
-    let size = ap length broken.is ∙ length-append broken.front (broken.byte ∷ broken.behind) in
+    let size = ap length broken.is ∙ length-append broken.prefix (broken.byte ∷ broken.after) in
     omega (arith, size)
 
 -- what stands before a session's calls: these bytes were framed, these came after them, and so many are counted
@@ -38,28 +38,28 @@ before_start limits = record { unspelt = empty_unspelt limits; taken = omega ari
 taken_all : (came piece : List ℕ) (used : ℕ) → used ≡ length piece → came ++ take used piece ≡ came ++ piece
 taken_all came piece used e = ap (λ x. came ++ x) (take_all used piece (omega (arith, e)))
 
-same_front : (xs ys us vs : List ℕ) → xs ++ ys ≡ us ++ vs → length xs ≡ length us → xs ≡ us
-same_front [] ys [] vs e size = refl
-same_front [] ys (u ∷ us) vs e size = absurd (omega (arith, size))
-same_front (x ∷ xs) ys [] vs e size = absurd (omega (arith, size))
-same_front (x ∷ xs) ys (u ∷ us) vs e size =
+same_prefix : (xs ys us vs : List ℕ) → xs ++ ys ≡ us ++ vs → length xs ≡ length us → xs ≡ us
+same_prefix [] ys [] vs e size = refl
+same_prefix [] ys (u ∷ us) vs e size = absurd (omega (arith, size))
+same_prefix (x ∷ xs) ys [] vs e size = absurd (omega (arith, size))
+same_prefix (x ∷ xs) ys (u ∷ us) vs e size =
     let tails : xs ++ ys ≡ us ++ vs = cc in
     let heads : x ≡ u = cc in
-    ap (λ z. z ∷ xs) heads ∙ ap (λ t. u ∷ t) (same_front xs ys us vs tails (omega (arith, size)))
+    ap (λ z. z ∷ xs) heads ∙ ap (λ t. u ∷ t) (same_prefix xs ys us vs tails (omega (arith, size)))
 
--- what breaks at its last byte breaks there without the bytes behind it too
-broken_front : (limits : Limits) (bytes behind : List ℕ) (reason : Reason) → Broken limits (bytes ++ behind) (length bytes) reason → Broken limits bytes (length bytes) reason
-broken_front limits bytes behind reason broken =
-    let size : length bytes ≡ length (broken.front ++ broken.byte ∷ []) = broken.at ∙ sym (length-append broken.front (broken.byte ∷ [])) in
-    let cut = same_front bytes behind (broken.front ++ broken.byte ∷ []) broken.behind (broken.is ∙ sym (append_assoc broken.front (broken.byte ∷ []) broken.behind)) size in
+-- what breaks at its last byte breaks there without the bytes after it too
+broken_prefix : (limits : Limits) (bytes after : List ℕ) (reason : Reason) → Broken limits (bytes ++ after) (length bytes) reason → Broken limits bytes (length bytes) reason
+broken_prefix limits bytes after reason broken =
+    let size : length bytes ≡ length (broken.prefix ++ broken.byte ∷ []) = broken.at ∙ sym (length-append broken.prefix (broken.byte ∷ [])) in
+    let cut = same_prefix bytes after (broken.prefix ++ broken.byte ∷ []) broken.after (broken.is ∙ sym (append_assoc broken.prefix (broken.byte ∷ []) broken.after)) size in
     record {
-      front = broken.front;
+      prefix = broken.prefix;
       byte = broken.byte;
-      behind = [];
+      after = [];
       is = cut;
       at = broken.at;
       fault = broken.fault;
-      first = λ before b after other e low. broken.first before b (after ++ behind) other (ap (λ x. x ++ behind) e ∙ append_assoc before (b ∷ after) behind) low;
+      first = λ before b rest other e low. broken.first before b (rest ++ after) other (ap (λ x. x ++ after) e ∙ append_assoc before (b ∷ rest) after) low;
     }
 
 -- the count of bytes after a call
@@ -77,20 +77,20 @@ before_fault : (limits : Limits) (past came piece : List ℕ) (used before place
 before_fault limits past came piece used before place reason d old new frames =
     let joined : came ++ piece ≡ (came ++ take used piece) ++ drop used piece = ap (λ x. came ++ x) (sym (take-append-drop used piece)) ∙ sym (append_assoc came (take used piece) (drop used piece)) in
     let broken = frames.0 in
-    let whole = ap length broken.is ∙ length-append broken.front (broken.byte ∷ broken.behind) in
+    let whole = ap length broken.is ∙ length-append broken.prefix (broken.byte ∷ broken.after) in
     let parts = length-append came piece in
     let within : used ≤ length piece = omega (arith, whole, parts, broken.at) in
     let size : length came + used ≡ length (came ++ take used piece) = omega (arith, length-append came (take used piece), length-take-le used piece within) in
     let here = subst (λ (n : ℕ). Broken limits ((came ++ take used piece) ++ drop used piece) n reason) size (subst (λ (x : List ℕ). Broken limits x (length came + used) reason) joined broken) in
     let count = counted past came (take used piece) before d.taken old new in
     record {
-      unspelt = unspelt_front limits (came ++ take used piece) (drop used piece) (subst (NothingSpelt limits) joined frames.1);
+      unspelt = unspelt_prefix limits (came ++ take used piece) (drop used piece) (subst (NothingSpelt limits) joined frames.1);
       taken = count;
       ends = record {
         before = length past;
         at = length (came ++ take used piece);
         all = sym (length-append past (came ++ take used piece));
-        breaks = broken_front limits (came ++ take used piece) (drop used piece) reason here;
+        breaks = broken_prefix limits (came ++ take used piece) (drop used piece) reason here;
         is = frames.2 ∙ count;
       };
     }

@@ -3,8 +3,8 @@ use Rattle.std.specs.Prelude.{◌≡◌, ℕ, ◌+◌, ◌≤◌, List, length, 
 use Rattle.doip_segment.specs.declared.outcome.Limits.{Limits}
 use Rattle.doip_segment.specs.declared.phase.Phase.{Phase}
 use Rattle.doip_segment.specs.declared.phase.Phase.TheVariants.{Due, LineStart, MessageEnd, Whole, Stuck}
-use Rattle.doip_segment.specs.Segments.{Held}
-use Rattle.doip_segment.specs.Framing.{told}
+use Rattle.doip_segment.specs.Segments.{Held, most_segments}
+use Rattle.doip_segment.specs.Framing.{most_total, told}
 use Rattle.doip_segment.specs.Machine.{run, IsInRange}
 use Rattle.doip_segment.specs.Decoding.{Decoding}
 
@@ -35,10 +35,10 @@ passed _ = 0
 
 -- the decoder's buffers hold whatever its limits let in
 pub record Fits (limits : Limits) (held : Held) (phase : Phase) (taken : ℕ) : Type 0 where
-  pub total : limits.total ≤ 67108864
+  pub total : limits.total ≤ most_total
   pub capacity : limits.total ≤ held.capacity
-  pub slots : 2048 ≤ held.slots
+  pub slots : most_segments ≤ held.slots
   pub used : held.used + held_back phase ≤ taken
   pub count : taken ≤ limits.total + passed phase
-  pub segments : length held.segments + opened phase ≤ 2048
+  pub segments : length held.segments + opened phase ≤ most_segments
   pub range : IsInRange phase

@@ -9,8 +9,8 @@ use Rattle.doip_segment.specs.Grammar.{IsWhite}
 use Rattle.doip_segment.specs.Framing.{Spelt, NothingSpelt, Broken, IsUnfinished, told}
 use Rattle.doip_segment.specs.Machine.{Reading, start, run, outcome_of}
 
--- A decoder: its limits, what `feed` returns for no bytes, the segments of the message that stands, and how many bytes were
--- taken, told as at most 2^64 - 1. Clauses name the reading through `Took` alone.
+-- A decoder: its limits, what `feed` returns for no bytes, the segments of the message that stands, and how many bytes
+-- were taken, at most 2^64 - 1 (`told`). Clauses name the reading through `Took` alone.
 pub record Decoding : Type 0 where
   pub limits : Limits
   pub standing : Step
@@ -18,7 +18,7 @@ pub record Decoding : Type 0 where
   pub taken : ℕ
   pub reading : Reading
 
--- what a decoder shows is what its reading says
+-- what a decoder shows follows from its reading
 pub record Shows (d : Decoding) : Type 0 where
   pub standing : d.standing ≡ outcome_of d.reading.phase d.taken
   pub segments : d.segments ≡ d.reading.segments
@@ -60,12 +60,14 @@ abbrev pub Frames : Limits → List ℕ → List ℕ → ℕ → Step → Decodi
 Frames limits came piece used steps.More new = (used ≡ length piece) × IsUnfinished limits (came ++ piece)
 Frames limits came piece used steps.Message new = Spelt limits (came ++ take used piece) new.segments
 Frames limits came piece used (steps.Fault place reason) new =
-    Broken limits (came ++ piece) (length came + used) reason × NothingSpelt limits (came ++ piece) × (place ≡ new.taken)
+    Broken limits (came ++ piece) (length came + used) reason × NothingSpelt limits (came ++ piece)
+    × (place ≡ new.taken)
 
 -- A message that the bytes begin with is read up to its end, whatever comes after it.
 abbrev pub ReadsMessage : Limits → List ℕ → List ℕ → ℕ → Step → Decoding → Type 0
-ReadsMessage limits came piece used step new = (prefix after : List ℕ) (message : List Segment) → Spelt limits prefix message
-    → came ++ piece ≡ prefix ++ after → (step ≡ steps.Message) × (length came + used ≡ length prefix) × (new.segments ≡ message)
+ReadsMessage limits came piece used step new =
+    (prefix after : List ℕ) (message : List Segment) → Spelt limits prefix message → came ++ piece ≡ prefix ++ after
+    → (step ≡ steps.Message) × (length came + used ≡ length prefix) × (new.segments ≡ message)
 
 -- Of a message that isn't whole yet all bytes are consumed.
 abbrev pub WaitsForMore : Limits → List ℕ → List ℕ → ℕ → Step → Type 0
@@ -73,8 +75,8 @@ WaitsForMore limits came piece used step =
     (next : ℕ) (more : List ℕ) (message : List Segment) → Spelt limits (came ++ piece ++ next ∷ more) message
     → (used ≡ length piece) × (step ≡ steps.More)
 
--- What `feed` says of the bytes that came since the last message and the piece after them, in both directions.
-pub record Tells (limits : Limits) (came piece : List ℕ) (used : ℕ) (step : Step) (new : Decoding) : Type 0 where
+-- What `feed` reports of the bytes that came since the last message and the piece after them, in both directions.
+pub record Reports (limits : Limits) (came piece : List ℕ) (used : ℕ) (step : Step) (new : Decoding) : Type 0 where
   pub frames : Frames limits came piece used step new
   pub reads : ReadsMessage limits came piece used step new
   pub waits : WaitsForMore limits came piece used step

@@ -50,8 +50,8 @@ abbrev pub rest_of : List ℕ → List Call → List ℕ
 rest_of came [] = came
 rest_of came (call ∷ calls) = rest_of (came_after came call call.step) calls
 
--- the end of a session by its last result: after a fault its rest breaks at that place of its bytes, for that reason, and
--- else nowhere
+-- the end of a session by its last result: after a fault its rest breaks at that place of its bytes, for that reason,
+-- and else nowhere
 abbrev pub EndsAt : Limits → List ℕ → List ℕ → Step → Type 0
 EndsAt limits bytes rest (Fault place reason) = BreaksSession limits bytes rest place reason
 EndsAt limits bytes rest _ = IsUnbroken limits rest

@@ -2,26 +2,27 @@
 
 ghost use Rattle.std.specs.Prelude.{◌≡◌, ◌≢◌, ◌+◌, ◌≤◌, ◌<◌, ◌↔◌, ℕ, List, [], ◌∷◌, ◌++◌, length, take, false, IsTrue, IfOk};
 ghost use Rattle.doip_segment.specs.Machine.{added, closed, limit_fault, is_done, start, end_of};
-ghost use Rattle.doip_segment.specs.Decoding.{IsStanding, EndsBetween, Shows, Took, Feeds, Uses, Tells};
+ghost use Rattle.doip_segment.specs.Framing.{most_total};
+ghost use Rattle.doip_segment.specs.Decoding.{IsStanding, EndsBetween, Shows, Took, Feeds, Uses, Reports};
 ghost use Rattle.doip_segment.specs.Advance.{Advances};
 
 use crate::class::{Class, classify};
 use crate::kind::Kind;
 use crate::message::Message;
 use crate::outcome::{End, Limits, Reason, Step};
-use crate::phase::{Phase, behind_data, next};
+use crate::phase::{Phase, next, phase_in_data};
 use memchr::memchr;
 use std::alloc::{AllocError, Global};
 use std::marker::Model;
 
-/// The most segments that a message has.
-const SEGMENTS: usize = 2048;
+/// The most segments that a message has (`most_segments` of the specs).
+const MOST_SEGMENTS: usize = 2048;
 
-/// Reads the messages of a session, from pieces of any length.
+/// Reads the messages of a session, however it is cut into pieces.
 #[derive(Debug, Drop)]
 pub struct Decoder {
     limits: Limits,
-    /// The closed segments of the message that is being read, and the content of the open one.
+    /// The segments read so far of a message, and the content of the one that isn't closed yet.
     message: Message,
     phase: Phase,
     /// How many bytes the message took so far.
@@ -98,13 +99,13 @@ impl Decoder {
     pub fn new(alloc: Global, limits: Limits) -> Result<Decoder, AllocError>
         requires json { 1 ≤ limits.json }
         requires order { limits.json ≤ limits.total }
-        requires total { limits.total ≤ 67108864 }
+        requires total { limits.total ≤ most_total }
         ensures limits { IfOk result (λ d. d.limits ≡ limits) }
         ensures standing { IfOk result (λ d. d.standing ≡ Step.More) }
         ensures took { IfOk result (λ d. Took d []) }
         ensures taken { IfOk result (λ d. d.taken ≡ 0) }
     {
-        let message = Message::with_room(alloc, limits.total as usize, SEGMENTS)?;
+        let message = Message::with_room(alloc, limits.total as usize, MOST_SEGMENTS)?;
         Ok(Decoder {
             limits,
             message,
@@ -114,7 +115,7 @@ impl Decoder {
         })
     }
 
-    /// Whether a message is whole or a fault stands, so that no byte more is taken.
+    /// Whether a message or a fault stands, so that no byte more is taken.
     fn is_done(&self) -> bool
         ensures { result ≡ is_done self.now.reading.phase }
     {
@@ -139,14 +140,14 @@ impl Decoder {
             Some(Reason::TooLong)
         } else if long {
             Some(Reason::JsonTooLong)
-        } else if begins && self.message.count() >= SEGMENTS {
+        } else if begins && self.message.count() >= MOST_SEGMENTS {
             Some(Reason::TooMany)
         } else {
             None
         }
     }
 
-    /// Takes one byte. Neither a whole message nor a fault stands.
+    /// Takes one byte while neither a message nor a fault stands.
     fn take_byte(&mut self, byte: u8)
         requires { is_done self.old.reading.phase ≡ false }
         ensures { Advances 1 (byte ∷ []) self.old self.new }
@@ -212,13 +213,13 @@ impl Decoder {
             return 1;
         }
         self.message.append(&rest[..window]);
-        self.phase = behind_data(left - window as u64);
+        self.phase = phase_in_data(left - window as u64);
         self.count += window as u32;
         self.taken = self.taken.saturating_add(window as u64);
         window
     }
 
-    /// Takes some of the bytes, by slices where contents stand. Neither a whole message nor a fault stands.
+    /// Takes some of the bytes while neither a message nor a fault stands, by slices if they are content.
     fn take_some(&mut self, rest: &[u8]) -> usize
         requires live { is_done self.old.reading.phase ≡ false }
         requires rest { 0 < length rest.now }
@@ -251,7 +252,7 @@ impl Decoder {
         }
     }
 
-    /// Takes bytes as long as nothing is done, and tells how many.
+    /// Takes bytes until a message or a fault stands, and returns how many.
     fn take_all(&mut self, piece: &[u8]) -> usize
         ensures within { result ≤ length piece.now }
         ensures all { is_done self.new.reading.phase ≡ false → result ≡ length piece.now }
@@ -275,7 +276,7 @@ impl Decoder {
         // What the bytes taken since the last message are, and this piece after them.
         ensures feeds { Feeds (take result.0 piece.now) self.old self.new }
         ensures framing { (came : List ℕ) → Took self.old came
-            → Tells self.old.limits came piece.now result.0 result.1 self.new }
+            → Reports self.old.limits came piece.now result.0 result.1 self.new }
 
         // While a message or a fault stands, nothing is consumed and the same is returned.
         ensures unchanged { self.old.standing ≢ Step.More
@@ -285,7 +286,7 @@ impl Decoder {
         (used, self.standing())
     }
 
-    /// How many bytes were taken since the decoder was made or last restarted, and 2^64 - 1 where there were more.
+    /// How many bytes were taken since the decoder was made or last restarted, and 2^64 - 1 if there were more.
     pub fn taken(&self) -> u64
         ensures { result ≡ self.now.taken }
     {
@@ -318,7 +319,7 @@ impl Decoder {
         self.count = 0;
     }
 
-    /// Drops the message that stands, if one does. Where none stands nothing changes.
+    /// Drops the message that stands, if one does, and changes nothing else.
     pub fn clear(&mut self)
         ensures limits { self.new.limits ≡ self.old.limits }
         ensures dropped { IsStanding self.old → (self.new.standing ≡ Step.More) × Took self.new [] }
@@ -341,8 +342,8 @@ impl Decoder {
         self.taken = 0;
     }
 
-    /// Where the session stands if no byte more comes: between messages where one stands, or where no fault does and only
-    /// white bytes came since the last one. Else inside, with the fault's place or the number of bytes taken.
+    /// How the session ends if no byte more comes: between messages if one stands, or if no fault does and only white
+    /// bytes came since the last one. Else inside, with the number of bytes taken, which is the place of a fault.
     pub fn finish(&self) -> End
         ensures between { (came : List ℕ) → Took self.now came → (result ≡ End.Between) ↔ EndsBetween self.now came }
         ensures inside { (place : ℕ) → result ≡ End.Inside place → place ≡ self.now.taken }

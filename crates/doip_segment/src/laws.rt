@@ -11,10 +11,10 @@ ghost use Rattle.doip_segment.specs.declared.outcome.Step.TheVariants.{More};
 ghost use Rattle.doip_segment.specs.Decoding.{Decoding, Took, Frames};
 ghost use Rattle.doip_segment.specs.Session.{Call, IsSession, bytes_of, messages_of, rest_of, Ends};
 
-/// No spelling is a proper front of another, and each is a spelling of one message.
+/// No spelling is a proper prefix of another, and each is a spelling of one message.
 pub fn no_spelling_begins_another()
-    ensures { (bytes behind : List ℕ) (message other : List Segment)
-        → IsSpelling bytes message → IsSpelling (bytes ++ behind) other → (behind ≡ []) × (message ≡ other) }
+    ensures { (bytes after : List ℕ) (message other : List Segment)
+        → IsSpelling bytes message → IsSpelling (bytes ++ after) other → (after ≡ []) × (message ≡ other) }
 {}
 
 /// Each list of bytes is framed in exactly one way.
@@ -38,13 +38,14 @@ pub fn canonical_is_a_spelling()
     ensures { (message : List Segment) → AreEncodable message → IsSpelling (canonical message) message }
 {}
 
-/// What the encoder wrote is read again, with whatever comes behind it: a stream that begins with the canonical spelling of
-/// a message within the limits has that message first, and then those of the bytes behind it.
+/// What the encoder wrote is read again, with whatever comes after it: a stream that begins with the canonical spelling
+/// of a message within the limits has that message first, and then those of the bytes after it.
 pub fn what_is_written_is_read()
-    ensures { (limits : Limits) (message : List Segment) (behind : List ℕ) (messages : List (List Segment)) (rest : List ℕ)
-        → AreEncodable message → IsWithin limits (canonical message) message
-        → Framed limits (canonical message ++ behind) messages rest
-        → (later : List (List Segment)) × (messages ≡ message ∷ later) × Framed limits behind later rest }
+    ensures { (limits : Limits) (message : List Segment) (after : List ℕ)
+        → (messages : List (List Segment)) (rest : List ℕ) → AreEncodable message
+        → IsWithin limits (canonical message) message
+        → Framed limits (canonical message ++ after) messages rest
+        → (later : List (List Segment)) × (messages ≡ message ∷ later) × Framed limits after later rest }
 {}
 
 /// What stands in a decoder is what the bytes since its last message are.

@@ -1,9 +1,9 @@
 //! Messages as bytes: a decoder that reads a session however it is cut into pieces, and an encoder.
 //!
 //! A message is a list of segments, each JSON text or bytes. Contracts see a `Message` as the list `segments`, and a
-//! `Decoder` as its limits, the result of a `feed` of no bytes (`standing`), the segments of the message that stands and
-//! how many bytes it took (`taken`). `Took d bytes` says which bytes came since the last message: nobody keeps them, so a
-//! contract names the caller's own list.
+//! `Decoder` as its limits, the result of a `feed` of no bytes (`standing`), the segments of the message that stands
+//! and how many bytes it took (`taken`). `Took d bytes` means that these bytes came since the last message: nobody
+//! keeps them, so a contract names the caller's own list.
 //!
 //! The call to read first is `Decoder::feed`. It consumes bytes up to the end of the first whole message, or up to and
 //! with the byte at which they break, and returns exactly what the grammar (`specs/Grammar.antt`) and its faults

@@ -3,7 +3,7 @@ use Rattle.std.proofs.lemmas.List.{length-take-le}
 use Rattle.doip_segment.specs.declared.outcome.Step.{Step}
 use Rattle.doip_segment.specs.Machine.{outcome_of}
 use Rattle.doip_segment.specs.Decoding.{Decoding, IsPlaced}
-use Rattle.doip_segment.proofs.AnswerLemmas.{end_answers, part_answers, placed, more_live}
+use Rattle.doip_segment.proofs.OutcomeLemmas.{end_returns, part_returns, placed, more_live}
 use Rattle.doip_segment.proofs.FeedLemmas.{took_on, took_reads, frames}
 use Rattle.doip_segment.proofs.decoder.Decoder.feed.Goals as goal
 
@@ -42,9 +42,9 @@ returns-clause-framing c = λ came took.
     record {
       frames = frames limits new came piece used c.standing.result reading more.count all.within all.all shows c.standing.ensures.standing;
       reads = λ prefix after message spelt e.
-          let end = end_answers limits new.reading came piece prefix after used message all.within reading more.count all.all spelt e in
+          let end = end_returns limits new.reading came piece prefix after used message all.within reading more.count all.all spelt e in
           (shown ∙ ap (λ p. outcome_of p new.taken) end.phase, end.used, shows.segments ∙ end.segments);
-      waits = λ next rest message spelt. part_answers limits new.reading came piece used new.taken next rest message c.standing.result reading all.all shown spelt;
+      waits = λ next rest message spelt. part_returns limits new.reading came piece used new.taken next rest message c.standing.result reading all.all shown spelt;
     }
 
 pub returns-clause-unchanged : goal.returns-clause-unchanged

@@ -1,5 +1,5 @@
 use Rattle.std.proofs.Common.{sym, ◌∙◌}
-use Rattle.doip_segment.proofs.AnswerLemmas.{ends_between, between_ends, inside_place}
+use Rattle.doip_segment.proofs.OutcomeLemmas.{ends_between, between_ends, inside_place}
 use Rattle.doip_segment.proofs.decoder.Decoder.finish.Goals as goal
 
 pub returns-clause-between : goal.returns-clause-between

@@ -2,7 +2,7 @@ use Rattle.std.proofs.Common.{◌≡◌, ◌-◌, true, false, length, take, dro
 use Rattle.std.proofs.lemmas.List.{take_rest, length-drop}
 use Rattle.doip_segment.specs.Decoding.{Decoding}
 use Rattle.doip_segment.specs.Machine.{run, is_done}
-use Rattle.doip_segment.proofs.AnswerLemmas.{stood_done}
+use Rattle.doip_segment.proofs.OutcomeLemmas.{stood_done}
 use Rattle.doip_segment.proofs.RunLemmas.{run_on}
 use Rattle.doip_segment.proofs.decoder.Decoder.take_all.Goals as goal
 

@@ -20,7 +20,7 @@ returns-clause-advances c =
     let goes = data_goes old.limits reading rest window c.args.left phase range.0 within fits room in
     record {
       limits = ap (λ (v : Decoding). v.limits) c.self.view_is;
-      reading = rw (c.append.ensures.segments, c.append.ensures.pending, c.behind_data-self-inside.ensures, ← c.self.view_is) goes;
+      reading = rw (c.append.ensures.segments, c.append.ensures.pending, c.phase_in_data-self-inside.ensures, ← c.self.view_is) goes;
       count = ap (λ (v : Decoding). v.reading.count + window) c.self.view_is;
       taken = c.saturating_add-self-inside.ensures ∙ ap (λ (v : Decoding). told (v.taken + window)) c.self.view_is;
     }
