@@ -107,5 +107,5 @@ canonical_spelling segments can = record {
   are_white = tt;
   are_blank = tt;
   spelled = ap (λ x. x ++ 35 ∷ 10 ∷ []) (sym (parts_text segments)) ∙ simp (append_assoc, append-nil);
-  says = parts_say segments;
+  message_is = parts_say segments;
 }

@@ -14,7 +14,7 @@ use Rattle.doip_segment.specs.declared.phase.Phase.TheVariants.{Due, Text, LineS
 use Rattle.doip_segment.specs.Segments.{segment}
 use Rattle.doip_segment.specs.Framing.{HoldsLimit}
 use Rattle.doip_segment.specs.Machine.{class_of, data_due, next_phase, added, closed, kept, limit_fault, passes_json, stepped, stepped_within, advanced, run, is_done, Reading, start}
-use Rattle.doip_segment.specs.Decoding.{opened}
+use Rattle.doip_segment.specs.Advance.{opened}
 use Rattle.doip_segment.proofs.FitLemmas.{closes, opened_step, few_step, none_left, IsLetIn}
 use Rattle.doip_segment.proofs.WalkLemmas.{Core, core, walk}
 use Rattle.doip_segment.proofs.TellLemmas.{all_push}
@@ -46,13 +46,13 @@ Clean limits r (b ∷ bs) = (is_done r.phase ≡ false) × (limit_fault limits r
 
 -- all bytes but the last are clean, and the last breaks a limit
 pub record Breaks (limits : Limits) (r : Reading) (bytes : List ℕ) (last : Reading) : Type 0 where
-  pub front : List ℕ
+  pub prefix : List ℕ
   pub byte : ℕ
   pub reason : Reason
-  pub is : bytes ≡ front ++ byte ∷ []
-  pub clean : Clean limits r front
-  pub live : is_done (go r front).phase ≡ false
-  pub fault : limit_fault limits (go r front) (class_of byte) ≡ Some reason
+  pub is : bytes ≡ prefix ++ byte ∷ []
+  pub clean : Clean limits r prefix
+  pub live : is_done (go r prefix).phase ≡ false
+  pub fault : limit_fault limits (go r prefix) (class_of byte) ≡ Some reason
   pub phase : last.phase ≡ Stuck reason
 
 pub run_done : (limits : Limits) (r : Reading) (bs : List ℕ) → is_done r.phase ≡ true → run limits r bs ≡ r
@@ -75,7 +75,7 @@ reach_by limits r b bs false None live none counted later =
     elim (later count) [
       | inl clean ↦ inl ((live, none, clean.0), onward ∙ clean.1)
       | inr broke ↦ inr (record {
-        front = b ∷ broke.front;
+        prefix = b ∷ broke.prefix;
         byte = broke.byte;
         reason = broke.reason;
         is = ap (λ x. b ∷ x) broke.is;
@@ -87,7 +87,7 @@ reach_by limits r b bs false None live none counted later =
     ]
 reach_by limits r b [] false (Some reason) live broke counted later =
     let on = live_step limits r b live ∙ ap (λ o. stepped_within o r (class_of b) b) broke in
-    inr (record { front = []; byte = b; reason = reason; is = refl; clean = tt; live = live; fault = broke; phase = ap (λ (x : Reading). x.phase) on })
+    inr (record { prefix = []; byte = b; reason = reason; is = refl; clean = tt; live = live; fault = broke; phase = ap (λ (x : Reading). x.phase) on })
 reach_by limits r b (c ∷ cs) false (Some reason) live broke counted later =
     let on = live_step limits r b live ∙ ap (λ o. stepped_within o r (class_of b) b) broke in
     let stays = ap (λ x. run limits x (c ∷ cs)) on ∙ run_done limits (stepped_within (Some reason) r (class_of b) b) (c ∷ cs) refl in
@@ -99,9 +99,9 @@ reach limits r [] counted = inl (tt, refl)
 reach limits r (b ∷ bs) counted = reach_by limits r b bs (is_done r.phase) (limit_fault limits r (class_of b)) refl refl counted (reach limits (stepped r (class_of b) b) bs)
 
 -- a clean list, cut somewhere
-pub clean_front : (limits : Limits) (r : Reading) (xs ys : List ℕ) → Clean limits r (xs ++ ys) → Clean limits r xs
-clean_front limits r [] ys clean = tt
-clean_front limits r (x ∷ xs) ys clean = (clean.0, clean.1, clean_front limits (stepped r (class_of x) x) xs ys clean.2)
+pub clean_prefix : (limits : Limits) (r : Reading) (xs ys : List ℕ) → Clean limits r (xs ++ ys) → Clean limits r xs
+clean_prefix limits r [] ys clean = tt
+clean_prefix limits r (x ∷ xs) ys clean = (clean.0, clean.1, clean_prefix limits (stepped r (class_of x) x) xs ys clean.2)
 
 pub clean_at : (limits : Limits) (r : Reading) (xs : List ℕ) (b : ℕ) (ys : List ℕ) → Clean limits r (xs ++ b ∷ ys) → (is_done (go r xs).phase ≡ false) × (limit_fault limits (go r xs) (class_of b) ≡ None)
 clean_at limits r [] b ys clean = (clean.0, clean.1)
@@ -206,7 +206,7 @@ closing_step limits MessageEnd c kind pending shut h = absurd (cc)
 closing_step limits Whole c kind pending shut h = absurd (cc)
 closing_step limits (Stuck reason) c kind pending shut h = absurd (cc)
 
--- the content behind a byte
+-- the content after a byte
 content_step : (limits : Limits) (r : Reading) (c : Class) (b : ℕ) (shut : Option Kind) → closed r.phase c ≡ shut → passes_json limits.json r.phase c (length r.pending) ≡ false → Bounded limits r → (length (kept r.segments r.pending shut (added r.phase c b)).0 ≡ length r.segments + closes shut) × AllByRecursion (λ s. HoldsLimit limits s.kind s.bytes) (kept r.segments r.pending shut (added r.phase c b)).0 × HoldsPending limits.json (next_phase r.phase c) (length (kept r.segments r.pending shut (added r.phase c b)).1)
 content_step limits r c b None shut fits old =
     let held = pending_step limits.json r.phase c b (length r.pending) shut fits old.pending in

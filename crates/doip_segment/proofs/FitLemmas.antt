@@ -12,7 +12,7 @@ use Rattle.doip_segment.specs.Segments.{Held}
 use Rattle.std.proofs.lemmas.Bool.{leb-false}
 use borrow.Author.Tests.{ltb-true}
 use Rattle.doip_segment.specs.Machine.{Reading, limit_fault, passes_json, data_due, next_phase, added, closed, begins, IsInRange}
-use Rattle.doip_segment.specs.Decoding.{held_back, opened, Fits}
+use Rattle.doip_segment.specs.Advance.{held_back, opened, Fits}
 
 -- one for a segment that is closed or begun
 abbrev pub closes : Option Kind → ℕ

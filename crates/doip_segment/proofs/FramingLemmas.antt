@@ -12,67 +12,67 @@ use Rattle.doip_segment.specs.declared.phase.Phase.{Phase}
 use Rattle.doip_segment.specs.declared.phase.Phase.TheVariants.{Due, Text, LineStart, JsonEnd, BytesStart, ChunkDue, Digits, Padding, Data, DataEnd, BytesEnd, MessageEnd, Whole, Stuck}
 use Rattle.doip_segment.specs.Segments.{Segment}
 use Rattle.doip_segment.specs.Grammar.{IsWhite, IsSpelling}
-use Rattle.doip_segment.specs.Decoding.{opened}
-use Rattle.doip_segment.specs.Framing.{AtSegment, Spelt, IsTooLong, IsJsonTooLong, IsTooMany, IsUngrammatical, BreaksGrammar, IsFault, BehindData, ChunkIsDue, BehindDigits, Broken, IsUnfinished}
+use Rattle.doip_segment.specs.Advance.{opened}
+use Rattle.doip_segment.specs.Framing.{AtSegment, Spelt, IsTooLong, IsJsonTooLong, IsTooMany, IsUngrammatical, BreaksGrammar, IsFault, AfterData, ChunkIsDue, AfterDigits, Broken, IsUnfinished}
 use Rattle.doip_segment.specs.Machine.{class_of, data_due, next_phase, marker, after_digits, limit_fault, passes_json, begins, run, is_done, Reading, start}
 use Rattle.doip_segment.proofs.ClassLemmas.{Classified, classified, classified_as}
 use Rattle.doip_segment.proofs.FitLemmas.{none_left, IsLetIn}
 use Rattle.doip_segment.proofs.WalkLemmas.{Core, core, moved, walk, outset, walk-append, spelling_walk, stuck_walk, text_phase, waiting, text_step, is_feed, unless_feed, length_phase}
 use Rattle.doip_segment.proofs.TellLemmas.{whole_spelling, digit_begins, other_begins, at_not_white}
-use Rattle.doip_segment.proofs.PositionLemmas.{due_phase, digits_phase, data_phase, too_long_passes, too_many_begins, due_at, text_at, chunk_at, digits_at, padding_at, data_at, front_of_spelling, ends_of}
-use Rattle.doip_segment.proofs.CleanLemmas.{go, core_of, core_go, count_go, go-append, Clean, reach, clean_front, clean_at, clean_live, HoldsPending, Bounded, bounded_start}
+use Rattle.doip_segment.proofs.PositionLemmas.{due_phase, digits_phase, data_phase, too_long_passes, too_many_begins, due_at, text_at, chunk_at, digits_at, padding_at, data_at, prefix_of_spelling, ends_of}
+use Rattle.doip_segment.proofs.CleanLemmas.{go, core_of, core_go, count_go, go-append, Clean, reach, clean_prefix, clean_at, clean_live, HoldsPending, Bounded, bounded_start}
 
--- the machine on lists, behind these bytes
-walk_go : (front : List ℕ) → walk outset front ≡ core_of (go start front)
-walk_go front = sym (core_go start front)
+-- the machine on lists, after these bytes
+walk_go : (prefix : List ℕ) → walk outset prefix ≡ core_of (go start prefix)
+walk_go prefix = sym (core_go start prefix)
 
 -- A byte that is let in breaks no limit.
-record KeepsLimits (limits : Limits) (front : List ℕ) (b : ℕ) : Type 0 where
-  total : ¬ IsTooLong limits front
-  json : ¬ IsJsonTooLong limits front b
-  count : ¬ IsTooMany front b
+record KeepsLimits (limits : Limits) (prefix : List ℕ) (b : ℕ) : Type 0 where
+  total : ¬ IsTooLong limits prefix
+  json : ¬ IsJsonTooLong limits prefix b
+  count : ¬ IsTooMany prefix b
 
 not_both : (t : Bool) → t ≡ true → t ≡ false → ⊥
 not_both t is isnt = let h : true ≡ false = sym is ∙ isnt in cc
 
-no_long : (limits : Limits) (front : List ℕ) (b : ℕ) → passes_json limits.json (go start front).phase (class_of b) (length (go start front).pending) ≡ false → IsJsonTooLong limits front b → ⊥
-no_long limits front b fits long =
-    let passes = subst (λ (s : Core). passes_json limits.json s.phase (class_of b) (length s.pending) ≡ true) (walk_go front) (too_long_passes limits front b long) in not_both _ passes fits
+no_long : (limits : Limits) (prefix : List ℕ) (b : ℕ) → passes_json limits.json (go start prefix).phase (class_of b) (length (go start prefix).pending) ≡ false → IsJsonTooLong limits prefix b → ⊥
+no_long limits prefix b fits long =
+    let passes = subst (λ (s : Core). passes_json limits.json s.phase (class_of b) (length s.pending) ≡ true) (walk_go prefix) (too_long_passes limits prefix b long) in not_both _ passes fits
 
-no_many : (limits : Limits) (front : List ℕ) (b : ℕ) → (begins (go start front).phase (class_of b) ≡ true → length (go start front).segments < 2048) → IsTooMany front b → ⊥
-no_many limits front b few many =
-    let at = subst (λ (s : Core). (begins s.phase (class_of b) ≡ true) × (length s.segments ≡ 2048)) (walk_go front) (too_many_begins front b many) in
+no_many : (limits : Limits) (prefix : List ℕ) (b : ℕ) → (begins (go start prefix).phase (class_of b) ≡ true → length (go start prefix).segments < 2048) → IsTooMany prefix b → ⊥
+no_many limits prefix b few many =
+    let at = subst (λ (s : Core). (begins s.phase (class_of b) ≡ true) × (length s.segments ≡ 2048)) (walk_go prefix) (too_many_begins prefix b many) in
     omega (arith, few at.0, at.1)
 
-keeps_limits : (limits : Limits) (front : List ℕ) (b : ℕ) → IsLetIn limits (go start front) (class_of b) → KeepsLimits limits front b
-keeps_limits limits front b let_in = record {
-  total = λ e. omega (arith, e, let_in.total, count_go start front);
-  json = no_long limits front b let_in.json;
-  count = no_many limits front b let_in.few;
+keeps_limits : (limits : Limits) (prefix : List ℕ) (b : ℕ) → IsLetIn limits (go start prefix) (class_of b) → KeepsLimits limits prefix b
+keeps_limits limits prefix b let_in = record {
+  total = λ e. omega (arith, e, let_in.total, count_go start prefix);
+  json = no_long limits prefix b let_in.json;
+  count = no_many limits prefix b let_in.few;
 }
 
 -- Where a byte leads on, no spelling ends.
-goes_on_by : (front : List ℕ) (b : ℕ) → is_done (go start (front ++ b ∷ [])).phase ≡ false → IsUngrammatical front b → ⊥
-goes_on_by front b live none =
-    let more = front_of_spelling (front ++ b ∷ []) (ap (λ (s : Core). is_done s.phase) (walk_go (front ++ b ∷ [])) ∙ live) in
-    none more.0 more.1 (subst (λ (x : List ℕ). IsSpelling x more.1) (append_assoc front (b ∷ []) more.0) more.2)
+goes_on_by : (prefix : List ℕ) (b : ℕ) → is_done (go start (prefix ++ b ∷ [])).phase ≡ false → IsUngrammatical prefix b → ⊥
+goes_on_by prefix b live none =
+    let more = prefix_of_spelling (prefix ++ b ∷ []) (ap (λ (s : Core). is_done s.phase) (walk_go (prefix ++ b ∷ [])) ∙ live) in
+    none more.0 more.1 (subst (λ (x : List ℕ). IsSpelling x more.1) (append_assoc prefix (b ∷ []) more.0) more.2)
 
 -- No fault is where a byte is let in and leads on.
-pub no_fault_at : (limits : Limits) (front : List ℕ) (b : ℕ) (reason : Reason) → limit_fault limits (go start front) (class_of b) ≡ None → is_done (go start (front ++ b ∷ [])).phase ≡ false → IsFault limits front b reason → ⊥
-no_fault_at limits front b reasons.TooLong none live fault = (keeps_limits limits front b (none_left limits (go start front) (class_of b) none)).total fault
-no_fault_at limits front b reasons.JsonTooLong none live fault = (keeps_limits limits front b (none_left limits (go start front) (class_of b) none)).json fault.1
-no_fault_at limits front b reasons.TooMany none live fault = (keeps_limits limits front b (none_left limits (go start front) (class_of b) none)).count fault.2
-no_fault_at limits front b reasons.ChunkEnd none live fault = goes_on_by front b live fault.0.grammar
-no_fault_at limits front b reasons.Length none live fault = goes_on_by front b live fault.0.grammar
-no_fault_at limits front b reasons.Marker none live fault = goes_on_by front b live fault.0.grammar
+pub no_fault_at : (limits : Limits) (prefix : List ℕ) (b : ℕ) (reason : Reason) → limit_fault limits (go start prefix) (class_of b) ≡ None → is_done (go start (prefix ++ b ∷ [])).phase ≡ false → IsFault limits prefix b reason → ⊥
+no_fault_at limits prefix b reasons.TooLong none live fault = (keeps_limits limits prefix b (none_left limits (go start prefix) (class_of b) none)).total fault
+no_fault_at limits prefix b reasons.JsonTooLong none live fault = (keeps_limits limits prefix b (none_left limits (go start prefix) (class_of b) none)).json fault.1
+no_fault_at limits prefix b reasons.TooMany none live fault = (keeps_limits limits prefix b (none_left limits (go start prefix) (class_of b) none)).count fault.2
+no_fault_at limits prefix b reasons.ChunkEnd none live fault = goes_on_by prefix b live fault.0.grammar
+no_fault_at limits prefix b reasons.Length none live fault = goes_on_by prefix b live fault.0.grammar
+no_fault_at limits prefix b reasons.Marker none live fault = goes_on_by prefix b live fault.0.grammar
 
--- behind each clean byte but the last there is another
-clean_next : (limits : Limits) (r : Reading) (front : List ℕ) (b : ℕ) (behind : List ℕ) → Clean limits r (front ++ b ∷ behind) → is_done (go r (front ++ b ∷ behind)).phase ≡ false → is_done (go r (front ++ b ∷ [])).phase ≡ false
-clean_next limits r front b [] clean live = live
-clean_next limits r front b (c ∷ cs) clean live = clean_live limits r (front ++ b ∷ []) c cs (subst (Clean limits r) (sym (append_assoc front (b ∷ []) (c ∷ cs))) clean)
+-- after each clean byte but the last there is another
+clean_next : (limits : Limits) (r : Reading) (prefix : List ℕ) (b : ℕ) (after : List ℕ) → Clean limits r (prefix ++ b ∷ after) → is_done (go r (prefix ++ b ∷ after)).phase ≡ false → is_done (go r (prefix ++ b ∷ [])).phase ≡ false
+clean_next limits r prefix b [] clean live = live
+clean_next limits r prefix b (c ∷ cs) clean live = clean_live limits r (prefix ++ b ∷ []) c cs (subst (Clean limits r) (sym (append_assoc prefix (b ∷ []) (c ∷ cs))) clean)
 
-pub no_fault_inside : (limits : Limits) (front : List ℕ) (b : ℕ) (behind : List ℕ) (reason : Reason) → Clean limits start (front ++ b ∷ behind) → is_done (go start (front ++ b ∷ behind)).phase ≡ false → IsFault limits front b reason → ⊥
-no_fault_inside limits front b behind reason clean live fault = no_fault_at limits front b reason (clean_at limits start front b behind clean).1 (clean_next limits start front b behind clean live) fault
+pub no_fault_inside : (limits : Limits) (prefix : List ℕ) (b : ℕ) (after : List ℕ) (reason : Reason) → Clean limits start (prefix ++ b ∷ after) → is_done (go start (prefix ++ b ∷ after)).phase ≡ false → IsFault limits prefix b reason → ⊥
+no_fault_inside limits prefix b after reason clean live fault = no_fault_at limits prefix b reason (clean_at limits start prefix b after clean).1 (clean_next limits start prefix b after clean live) fault
 
 -- what a grammar fault is, by the place before it
 marker_stuck : (p after : Phase) (c : Class) (reason : Reason) → (after ≡ Stuck reason → ⊥) → (p ≡ Stuck reason → ⊥) → marker p c after ≡ Stuck reason → reason ≡ reasons.Marker
@@ -157,62 +157,62 @@ length_is : (n v : ℕ) (bs : List ℕ) → IsLengthPhase (length_phase n v bs)
 length_is n v [] = tt
 length_is n v (b ∷ bs) = tt
 
-behind_digits_is : (front : List ℕ) (p : Phase) → (walk outset front).phase ≡ p → BehindDigits front → IsLengthPhase p
-behind_digits_is front p at behind = let w = digits_phase front behind in subst IsLengthPhase (sym w.3 ∙ at) (length_is w.0 w.1 w.2)
+after_digits_is : (prefix : List ℕ) (p : Phase) → (walk outset prefix).phase ≡ p → AfterDigits prefix → IsLengthPhase p
+after_digits_is prefix p at after = let w = digits_phase prefix after in subst IsLengthPhase (sym w.3 ∙ at) (length_is w.0 w.1 w.2)
 
 abbrev IsDataEnd : Phase → Type 0
 IsDataEnd DataEnd = Unit {0}
 IsDataEnd _ = ⊥
 
-behind_data_is : (front : List ℕ) (p : Phase) → (walk outset front).phase ≡ p → BehindData front → IsDataEnd p
-behind_data_is front p at behind = subst IsDataEnd (sym (data_phase front behind) ∙ at) tt
+after_data_is : (prefix : List ℕ) (p : Phase) → (walk outset prefix).phase ≡ p → AfterData prefix → IsDataEnd p
+after_data_is prefix p at after = subst IsDataEnd (sym (data_phase prefix after) ∙ at) tt
 
 abbrev IsChunkDue : Phase → Type 0
 IsChunkDue ChunkDue = Unit {0}
 IsChunkDue _ = ⊥
 
-chunk_due_is : (front : List ℕ) (p : Phase) → (walk outset front).phase ≡ p → ChunkIsDue front → IsChunkDue p
-chunk_due_is front p at behind = subst IsChunkDue (sym (due_phase front behind) ∙ at) tt
+chunk_due_is : (prefix : List ℕ) (p : Phase) → (walk outset prefix).phase ≡ p → ChunkIsDue prefix → IsChunkDue p
+chunk_due_is prefix p at after = subst IsChunkDue (sym (due_phase prefix after) ∙ at) tt
 
-marker_fault : (limits : Limits) (front : List ℕ) (b : ℕ) (p : Phase) (reason : Reason) → (walk outset front).phase ≡ p → (IsDataEnd p → ⊥) → (IsChunkDue p → ⊥) → (IsLengthPhase p → ⊥) → reason ≡ reasons.Marker → BreaksGrammar limits front b → IsFault limits front b reason
-marker_fault limits front b p reason at data_ chunk digits e breaks =
-    subst (IsFault limits front b) (sym e) (breaks, (λ h. data_ (behind_data_is front p at h)), (λ h. chunk (chunk_due_is front p at h)), (λ h. digits (behind_digits_is front p at h)))
+marker_fault : (limits : Limits) (prefix : List ℕ) (b : ℕ) (p : Phase) (reason : Reason) → (walk outset prefix).phase ≡ p → (IsDataEnd p → ⊥) → (IsChunkDue p → ⊥) → (IsLengthPhase p → ⊥) → reason ≡ reasons.Marker → BreaksGrammar limits prefix b → IsFault limits prefix b reason
+marker_fault limits prefix b p reason at data_ chunk digits e breaks =
+    subst (IsFault limits prefix b) (sym e) (breaks, (λ h. data_ (after_data_is prefix p at h)), (λ h. chunk (chunk_due_is prefix p at h)), (λ h. digits (after_digits_is prefix p at h)))
 
-length_fault : (limits : Limits) (front : List ℕ) (b : ℕ) (p : Phase) (reason : Reason) → (walk outset front).phase ≡ p → (IsDataEnd p → ⊥) → (ChunkIsDue front ⊎ BehindDigits front) → reason ≡ reasons.Length → BreaksGrammar limits front b → IsFault limits front b reason
-length_fault limits front b p reason at data_ here e breaks = subst (IsFault limits front b) (sym e) (breaks, (λ h. data_ (behind_data_is front p at h)), here)
+length_fault : (limits : Limits) (prefix : List ℕ) (b : ℕ) (p : Phase) (reason : Reason) → (walk outset prefix).phase ≡ p → (IsDataEnd p → ⊥) → (ChunkIsDue prefix ⊎ AfterDigits prefix) → reason ≡ reasons.Length → BreaksGrammar limits prefix b → IsFault limits prefix b reason
+length_fault limits prefix b p reason at data_ here e breaks = subst (IsFault limits prefix b) (sym e) (breaks, (λ h. data_ (after_data_is prefix p at h)), here)
 
-grammar_reason : (limits : Limits) (front : List ℕ) (b : ℕ) (segments : List Segment) (pending : List ℕ) (p : Phase) (c : Class) (reason : Reason) → walk outset front ≡ core segments pending p → is_done p ≡ false → next_phase p c ≡ Stuck reason → BreaksGrammar limits front b → IsFault limits front b reason
-grammar_reason limits front b segments pending Due c reason at live e breaks = absurd (due_not_stuck c reason e)
-grammar_reason limits front b segments pending Text c reason at live e breaks = absurd (text_not_stuck c reason e)
-grammar_reason limits front b segments pending LineStart c reason at live e breaks = absurd (line_not_stuck c reason e)
-grammar_reason limits front b segments pending JsonEnd c reason at live e breaks = marker_fault limits front b JsonEnd reason (ap (λ (s : Core). s.phase) at) (λ h. h) (λ h. h) (λ h. h) (marker_stuck JsonEnd Due c reason (λ h. cc) (λ h. cc) e) breaks
-grammar_reason limits front b segments pending BytesStart c reason at live e breaks = marker_fault limits front b BytesStart reason (ap (λ (s : Core). s.phase) at) (λ h. h) (λ h. h) (λ h. h) (marker_stuck BytesStart ChunkDue c reason (λ h. cc) (λ h. cc) e) breaks
-grammar_reason limits front b segments pending BytesEnd c reason at live e breaks = marker_fault limits front b BytesEnd reason (ap (λ (s : Core). s.phase) at) (λ h. h) (λ h. h) (λ h. h) (marker_stuck BytesEnd Due c reason (λ h. cc) (λ h. cc) e) breaks
-grammar_reason limits front b segments pending MessageEnd c reason at live e breaks = marker_fault limits front b MessageEnd reason (ap (λ (s : Core). s.phase) at) (λ h. h) (λ h. h) (λ h. h) (marker_stuck MessageEnd Whole c reason (λ h. cc) (λ h. cc) e) breaks
-grammar_reason limits front b segments pending ChunkDue c reason at live e breaks = length_fault limits front b ChunkDue reason (ap (λ (s : Core). s.phase) at) (λ h. h) (inl (chunk_at segments pending front at)) (chunk_stuck c reason e) breaks
-grammar_reason limits front b segments pending (Digits n v) c reason at live e breaks = length_fault limits front b (Digits n v) reason (ap (λ (s : Core). s.phase) at) (λ h. h) (inr (digits_at segments pending front n v at)) (digits_stuck n v c reason e) breaks
-grammar_reason limits front b segments pending (Padding v) c reason at live e breaks = length_fault limits front b (Padding v) reason (ap (λ (s : Core). s.phase) at) (λ h. h) (inr (padding_at segments pending front v at)) (padding_stuck v c reason e) breaks
-grammar_reason limits front b segments pending (Data left) c reason at live e breaks = absurd (data_not_stuck (left - 1) reason e)
-grammar_reason limits front b segments pending DataEnd c reason at live e breaks = subst (IsFault limits front b) (sym (end_stuck c reason e)) (breaks, data_at segments pending front at)
-grammar_reason limits front b segments pending Whole c reason at live e breaks = absurd (let h : true ≡ false = live in cc)
-grammar_reason limits front b segments pending (Stuck other) c reason at live e breaks = absurd (let h : true ≡ false = live in cc)
+grammar_reason : (limits : Limits) (prefix : List ℕ) (b : ℕ) (segments : List Segment) (pending : List ℕ) (p : Phase) (c : Class) (reason : Reason) → walk outset prefix ≡ core segments pending p → is_done p ≡ false → next_phase p c ≡ Stuck reason → BreaksGrammar limits prefix b → IsFault limits prefix b reason
+grammar_reason limits prefix b segments pending Due c reason at live e breaks = absurd (due_not_stuck c reason e)
+grammar_reason limits prefix b segments pending Text c reason at live e breaks = absurd (text_not_stuck c reason e)
+grammar_reason limits prefix b segments pending LineStart c reason at live e breaks = absurd (line_not_stuck c reason e)
+grammar_reason limits prefix b segments pending JsonEnd c reason at live e breaks = marker_fault limits prefix b JsonEnd reason (ap (λ (s : Core). s.phase) at) (λ h. h) (λ h. h) (λ h. h) (marker_stuck JsonEnd Due c reason (λ h. cc) (λ h. cc) e) breaks
+grammar_reason limits prefix b segments pending BytesStart c reason at live e breaks = marker_fault limits prefix b BytesStart reason (ap (λ (s : Core). s.phase) at) (λ h. h) (λ h. h) (λ h. h) (marker_stuck BytesStart ChunkDue c reason (λ h. cc) (λ h. cc) e) breaks
+grammar_reason limits prefix b segments pending BytesEnd c reason at live e breaks = marker_fault limits prefix b BytesEnd reason (ap (λ (s : Core). s.phase) at) (λ h. h) (λ h. h) (λ h. h) (marker_stuck BytesEnd Due c reason (λ h. cc) (λ h. cc) e) breaks
+grammar_reason limits prefix b segments pending MessageEnd c reason at live e breaks = marker_fault limits prefix b MessageEnd reason (ap (λ (s : Core). s.phase) at) (λ h. h) (λ h. h) (λ h. h) (marker_stuck MessageEnd Whole c reason (λ h. cc) (λ h. cc) e) breaks
+grammar_reason limits prefix b segments pending ChunkDue c reason at live e breaks = length_fault limits prefix b ChunkDue reason (ap (λ (s : Core). s.phase) at) (λ h. h) (inl (chunk_at segments pending prefix at)) (chunk_stuck c reason e) breaks
+grammar_reason limits prefix b segments pending (Digits n v) c reason at live e breaks = length_fault limits prefix b (Digits n v) reason (ap (λ (s : Core). s.phase) at) (λ h. h) (inr (digits_at segments pending prefix n v at)) (digits_stuck n v c reason e) breaks
+grammar_reason limits prefix b segments pending (Padding v) c reason at live e breaks = length_fault limits prefix b (Padding v) reason (ap (λ (s : Core). s.phase) at) (λ h. h) (inr (padding_at segments pending prefix v at)) (padding_stuck v c reason e) breaks
+grammar_reason limits prefix b segments pending (Data left) c reason at live e breaks = absurd (data_not_stuck (left - 1) reason e)
+grammar_reason limits prefix b segments pending DataEnd c reason at live e breaks = subst (IsFault limits prefix b) (sym (end_stuck c reason e)) (breaks, data_at segments pending prefix at)
+grammar_reason limits prefix b segments pending Whole c reason at live e breaks = absurd (let h : true ≡ false = live in cc)
+grammar_reason limits prefix b segments pending (Stuck other) c reason at live e breaks = absurd (let h : true ≡ false = live in cc)
 
--- behind a grammar fault no spelling goes on
-stuck_ungrammatical : (front : List ℕ) (b : ℕ) (reason : Reason) → next_phase (walk outset front).phase (class_of b) ≡ Stuck reason → IsUngrammatical front b
-stuck_ungrammatical front b reason e behind message is =
-    let s = walk outset front in
+-- after a grammar fault no spelling goes on
+stuck_ungrammatical : (prefix : List ℕ) (b : ℕ) (reason : Reason) → next_phase (walk outset prefix).phase (class_of b) ≡ Stuck reason → IsUngrammatical prefix b
+stuck_ungrammatical prefix b reason e after message is =
+    let s = walk outset prefix in
     let next = moved s (class_of b) b in
-    let whole = sym (ap (λ (x : Core). x.phase) (spelling_walk (front ++ b ∷ behind) message is)) ∙ ap (λ (x : Core). x.phase) (walk-append outset front (b ∷ behind)) in
+    let whole = sym (ap (λ (x : Core). x.phase) (spelling_walk (prefix ++ b ∷ after) message is)) ∙ ap (λ (x : Core). x.phase) (walk-append outset prefix (b ∷ after)) in
     let same : next ≡ core next.segments next.pending (Stuck reason) = ap (core next.segments next.pending) e in
-    let stuck = ap (λ (x : Core). (walk x behind).phase) same ∙ stuck_walk next.segments next.pending behind reason in
+    let stuck = ap (λ (x : Core). (walk x after).phase) same ∙ stuck_walk next.segments next.pending after reason in
     let h : Whole ≡ Stuck reason = whole ∙ stuck in cc
 
-pub grammar_fault : (limits : Limits) (front : List ℕ) (b : ℕ) (reason : Reason) → is_done (go start front).phase ≡ false → limit_fault limits (go start front) (class_of b) ≡ None → next_phase (go start front).phase (class_of b) ≡ Stuck reason → IsFault limits front b reason
-grammar_fault limits front b reason live none e =
-    let r = go start front in
-    let keeps = keeps_limits limits front b (none_left limits r (class_of b) none) in
-    let stuck = ap (λ (s : Core). next_phase s.phase (class_of b)) (walk_go front) ∙ e in
-    grammar_reason limits front b r.segments r.pending r.phase (class_of b) reason (walk_go front) live e (record { total = keeps.total; json = keeps.json; count = keeps.count; grammar = stuck_ungrammatical front b reason stuck })
+pub grammar_fault : (limits : Limits) (prefix : List ℕ) (b : ℕ) (reason : Reason) → is_done (go start prefix).phase ≡ false → limit_fault limits (go start prefix) (class_of b) ≡ None → next_phase (go start prefix).phase (class_of b) ≡ Stuck reason → IsFault limits prefix b reason
+grammar_fault limits prefix b reason live none e =
+    let r = go start prefix in
+    let keeps = keeps_limits limits prefix b (none_left limits r (class_of b) none) in
+    let stuck = ap (λ (s : Core). next_phase s.phase (class_of b)) (walk_go prefix) ∙ e in
+    grammar_reason limits prefix b r.segments r.pending r.phase (class_of b) reason (walk_go prefix) live e (record { total = keeps.total; json = keeps.json; count = keeps.count; grammar = stuck_ungrammatical prefix b reason stuck })
 
 -- the place at which a JSON segment can be too long
 record LongPlace (json : ℕ) (p : Phase) (c : Class) (size : ℕ) : Type 0 where
@@ -250,23 +250,23 @@ one_more : (feed : Bool) (b : ℕ) → length (unless_feed feed b) + length (wai
 one_more true b = refl
 one_more false b = refl
 
-long_text : (limits : Limits) (front : List ℕ) (b : ℕ) (segments : List Segment) (pending : List ℕ) (line : Bool) → walk outset front ≡ core segments pending (text_phase line) → (line ≡ true → class_of b ≡ Hash → ⊥) → length pending + length (waiting line) ≡ limits.json + 1 → IsJsonTooLong limits front b
-long_text limits front b segments pending line at other size =
+long_text : (limits : Limits) (prefix : List ℕ) (b : ℕ) (segments : List Segment) (pending : List ℕ) (line : Bool) → walk outset prefix ≡ core segments pending (text_phase line) → (line ≡ true → class_of b ≡ Hash → ⊥) → length pending + length (waiting line) ≡ limits.json + 1 → IsJsonTooLong limits prefix b
+long_text limits prefix b segments pending line at other size =
     let feed = is_feed (class_of b) in
     let more = pending ++ (waiting line ++ unless_feed feed b) in
-    let next = walk-append outset front (b ∷ []) ∙ ap (λ s. moved s (class_of b) b) at ∙ text_step segments pending line b (class_of b) (classified_as b LineFeed) other in
+    let next = walk-append outset prefix (b ∷ []) ∙ ap (λ s. moved s (class_of b) b) at ∙ text_step segments pending line b (class_of b) (classified_as b LineFeed) other in
     let count = length-append more (waiting feed) in
     let inner = length-append pending (waiting line ++ unless_feed feed b) in
     let last = length-append (waiting line) (unless_feed feed b) in
-    (more ++ waiting feed, omega (arith, count, inner, last, one_more feed b, size), text_at segments more (front ++ b ∷ []) feed next)
+    (more ++ waiting feed, omega (arith, count, inner, last, one_more feed b, size), text_at segments more (prefix ++ b ∷ []) feed next)
 
-long_fault : (limits : Limits) (front : List ℕ) (b : ℕ) (p : Phase) → walk outset front ≡ core (go start front).segments (go start front).pending p → HoldsPending limits.json p (length (go start front).pending) → passes_json limits.json p (class_of b) (length (go start front).pending) ≡ true → IsJsonTooLong limits front b
-long_fault limits front b p at holds passes =
-    let r = go start front in
+long_fault : (limits : Limits) (prefix : List ℕ) (b : ℕ) (p : Phase) → walk outset prefix ≡ core (go start prefix).segments (go start prefix).pending p → HoldsPending limits.json p (length (go start prefix).pending) → passes_json limits.json p (class_of b) (length (go start prefix).pending) ≡ true → IsJsonTooLong limits prefix b
+long_fault limits prefix b p at holds passes =
+    let r = go start prefix in
     let place = long_place limits.json p (class_of b) (length r.pending) passes in
     let high = line_high limits.json place.line (length r.pending) (subst (λ (x : Phase). HoldsPending limits.json x (length r.pending)) place.is holds) in
     let size : length r.pending + length (waiting place.line) ≡ limits.json + 1 = omega (arith, high, place.low) in
-    long_text limits front b r.segments r.pending place.line (at ∙ ap (core r.segments r.pending) place.is) place.other size
+    long_text limits prefix b r.segments r.pending place.line (at ∙ ap (core r.segments r.pending) place.is) place.other size
 
 -- where a segment begins
 begin_class : (b : ℕ) (c : Class) → Classified b c → begins Due c ≡ true → (IsWhite b → ⊥) × (b ≢ 35)
@@ -281,98 +281,98 @@ both_true : (x y : Bool) → (x && y) ≡ true → (x ≡ true) × (y ≡ true)
 both_true true y e = (refl, e)
 both_true false y e = absurd (let h : false ≡ true = e in cc)
 
-many_fault : (limits : Limits) (front : List ℕ) (b : ℕ) (p : Phase) → walk outset front ≡ core (go start front).segments (go start front).pending p → length (go start front).segments + opened p ≤ 2048 → (begins p (class_of b) && leb 2048 (length (go start front).segments)) ≡ true → IsTooMany front b
-many_fault limits front b Due at few e =
-    let r = go start front in
+many_fault : (limits : Limits) (prefix : List ℕ) (b : ℕ) (p : Phase) → walk outset prefix ≡ core (go start prefix).segments (go start prefix).pending p → length (go start prefix).segments + opened p ≤ 2048 → (begins p (class_of b) && leb 2048 (length (go start prefix).segments)) ≡ true → IsTooMany prefix b
+many_fault limits prefix b Due at few e =
+    let r = go start prefix in
     let both = both_true (begins Due (class_of b)) (leb 2048 (length r.segments)) e in
     let count : length r.segments ≡ 2048 = omega (arith, few, leb-true 2048 (length r.segments) both.1) in
     let kind = begin_class b (class_of b) (classified b) both.0 in
-    (subst (AtSegment front) count (due_at r.segments r.pending front at), kind.0, kind.1)
-many_fault limits front b Text at few e = absurd (let h : false ≡ true = e in cc)
-many_fault limits front b LineStart at few e = absurd (let h : false ≡ true = e in cc)
-many_fault limits front b JsonEnd at few e = absurd (let h : false ≡ true = e in cc)
-many_fault limits front b BytesStart at few e = absurd (let h : false ≡ true = e in cc)
-many_fault limits front b ChunkDue at few e = absurd (let h : false ≡ true = e in cc)
-many_fault limits front b (Digits n v) at few e = absurd (let h : false ≡ true = e in cc)
-many_fault limits front b (Padding v) at few e = absurd (let h : false ≡ true = e in cc)
-many_fault limits front b (Data left) at few e = absurd (let h : false ≡ true = e in cc)
-many_fault limits front b DataEnd at few e = absurd (let h : false ≡ true = e in cc)
-many_fault limits front b BytesEnd at few e = absurd (let h : false ≡ true = e in cc)
-many_fault limits front b MessageEnd at few e = absurd (let h : false ≡ true = e in cc)
-many_fault limits front b Whole at few e = absurd (let h : false ≡ true = e in cc)
-many_fault limits front b (Stuck reason) at few e = absurd (let h : false ≡ true = e in cc)
+    (subst (AtSegment prefix) count (due_at r.segments r.pending prefix at), kind.0, kind.1)
+many_fault limits prefix b Text at few e = absurd (let h : false ≡ true = e in cc)
+many_fault limits prefix b LineStart at few e = absurd (let h : false ≡ true = e in cc)
+many_fault limits prefix b JsonEnd at few e = absurd (let h : false ≡ true = e in cc)
+many_fault limits prefix b BytesStart at few e = absurd (let h : false ≡ true = e in cc)
+many_fault limits prefix b ChunkDue at few e = absurd (let h : false ≡ true = e in cc)
+many_fault limits prefix b (Digits n v) at few e = absurd (let h : false ≡ true = e in cc)
+many_fault limits prefix b (Padding v) at few e = absurd (let h : false ≡ true = e in cc)
+many_fault limits prefix b (Data left) at few e = absurd (let h : false ≡ true = e in cc)
+many_fault limits prefix b DataEnd at few e = absurd (let h : false ≡ true = e in cc)
+many_fault limits prefix b BytesEnd at few e = absurd (let h : false ≡ true = e in cc)
+many_fault limits prefix b MessageEnd at few e = absurd (let h : false ≡ true = e in cc)
+many_fault limits prefix b Whole at few e = absurd (let h : false ≡ true = e in cc)
+many_fault limits prefix b (Stuck reason) at few e = absurd (let h : false ≡ true = e in cc)
 
 -- the limit that a byte breaks, by the tests before it
-limit_by : (limits : Limits) (front : List ℕ) (b : ℕ) (t j m : Bool) (reason : Reason) → Bounded limits (go start front) → leb limits.total (go start front).count ≡ t → passes_json limits.json (go start front).phase (class_of b) (length (go start front).pending) ≡ j → (begins (go start front).phase (class_of b) && leb 2048 (length (go start front).segments)) ≡ m → cond t (Some reasons.TooLong) (cond j (Some reasons.JsonTooLong) (cond m (Some reasons.TooMany) None)) ≡ Some reason → IsFault limits front b reason
-limit_by limits front b true j m reason bounded et ej em e =
+limit_by : (limits : Limits) (prefix : List ℕ) (b : ℕ) (t j m : Bool) (reason : Reason) → Bounded limits (go start prefix) → leb limits.total (go start prefix).count ≡ t → passes_json limits.json (go start prefix).phase (class_of b) (length (go start prefix).pending) ≡ j → (begins (go start prefix).phase (class_of b) && leb 2048 (length (go start prefix).segments)) ≡ m → cond t (Some reasons.TooLong) (cond j (Some reasons.JsonTooLong) (cond m (Some reasons.TooMany) None)) ≡ Some reason → IsFault limits prefix b reason
+limit_by limits prefix b true j m reason bounded et ej em e =
     let is : reason ≡ reasons.TooLong = cc in
-    let at : length front ≡ limits.total = omega (arith, bounded.total, count_go start front, leb-true limits.total (go start front).count et) in
-    subst (IsFault limits front b) (sym is) at
-limit_by limits front b false true m reason bounded et ej em e =
+    let at : length prefix ≡ limits.total = omega (arith, bounded.total, count_go start prefix, leb-true limits.total (go start prefix).count et) in
+    subst (IsFault limits prefix b) (sym is) at
+limit_by limits prefix b false true m reason bounded et ej em e =
     let is : reason ≡ reasons.JsonTooLong = cc in
-    let low = leb-false limits.total (go start front).count et in
-    subst (IsFault limits front b) (sym is) ((λ h. omega (arith, h, low, count_go start front)), long_fault limits front b (go start front).phase (walk_go front) bounded.pending ej)
-limit_by limits front b false false true reason bounded et ej em e =
+    let low = leb-false limits.total (go start prefix).count et in
+    subst (IsFault limits prefix b) (sym is) ((λ h. omega (arith, h, low, count_go start prefix)), long_fault limits prefix b (go start prefix).phase (walk_go prefix) bounded.pending ej)
+limit_by limits prefix b false false true reason bounded et ej em e =
     let is : reason ≡ reasons.TooMany = cc in
-    let low = leb-false limits.total (go start front).count et in
-    subst (IsFault limits front b) (sym is) ((λ h. omega (arith, h, low, count_go start front)), no_long limits front b ej, many_fault limits front b (go start front).phase (walk_go front) bounded.segments em)
-limit_by limits front b false false false reason bounded et ej em e = absurd (cc)
+    let low = leb-false limits.total (go start prefix).count et in
+    subst (IsFault limits prefix b) (sym is) ((λ h. omega (arith, h, low, count_go start prefix)), no_long limits prefix b ej, many_fault limits prefix b (go start prefix).phase (walk_go prefix) bounded.segments em)
+limit_by limits prefix b false false false reason bounded et ej em e = absurd (cc)
 
-pub limit_is_fault : (limits : Limits) (front : List ℕ) (b : ℕ) (reason : Reason) → Clean limits start front → limit_fault limits (go start front) (class_of b) ≡ Some reason → IsFault limits front b reason
-limit_is_fault limits front b reason clean e =
-    let r = go start front in
-    limit_by limits front b (leb limits.total r.count) (passes_json limits.json r.phase (class_of b) (length r.pending)) (begins r.phase (class_of b) && leb 2048 (length r.segments)) reason (bounded_start limits front clean) refl refl refl e
+pub limit_is_fault : (limits : Limits) (prefix : List ℕ) (b : ℕ) (reason : Reason) → Clean limits start prefix → limit_fault limits (go start prefix) (class_of b) ≡ Some reason → IsFault limits prefix b reason
+limit_is_fault limits prefix b reason clean e =
+    let r = go start prefix in
+    limit_by limits prefix b (leb limits.total r.count) (passes_json limits.json r.phase (class_of b) (length r.pending)) (begins r.phase (class_of b) && leb 2048 (length r.segments)) reason (bounded_start limits prefix clean) refl refl refl e
 
 -- lists cut at two places
-split_front : (front rest f : List ℕ) (b : ℕ) (g : List ℕ) → front ++ rest ≡ f ++ b ∷ g → length f < length front → (h : List ℕ) × (front ≡ f ++ b ∷ h)
-split_front [] rest f b g e low = absurd (omega arith)
-split_front (x ∷ front) rest [] b g e low = (front, (let h : x ≡ b = cc in ap (λ y. y ∷ front) h))
-split_front (x ∷ front) rest (y ∷ f) b g e low =
-    let tails : front ++ rest ≡ f ++ b ∷ g = cc in
+split_prefix : (prefix rest f : List ℕ) (b : ℕ) (g : List ℕ) → prefix ++ rest ≡ f ++ b ∷ g → length f < length prefix → (h : List ℕ) × (prefix ≡ f ++ b ∷ h)
+split_prefix [] rest f b g e low = absurd (omega arith)
+split_prefix (x ∷ prefix) rest [] b g e low = (prefix, (let h : x ≡ b = cc in ap (λ y. y ∷ prefix) h))
+split_prefix (x ∷ prefix) rest (y ∷ f) b g e low =
+    let tails : prefix ++ rest ≡ f ++ b ∷ g = cc in
     let heads : x ≡ y = cc in
-    let later = split_front front rest f b g tails (omega arith) in
-    (later.0, ap (λ z. z ∷ front) heads ∙ ap (λ t. y ∷ t) later.1)
+    let later = split_prefix prefix rest f b g tails (omega arith) in
+    (later.0, ap (λ z. z ∷ prefix) heads ∙ ap (λ t. y ∷ t) later.1)
 
--- A fault behind clean bytes is where the bytes break.
-pub fault_breaks : (limits : Limits) (front : List ℕ) (b : ℕ) (more : List ℕ) (reason : Reason) → Clean limits start front → is_done (go start front).phase ≡ false → IsFault limits front b reason → Broken limits (front ++ b ∷ more) (length front + 1) reason
-fault_breaks limits front b more reason clean live fault = record {
-  front = front;
+-- A fault after clean bytes is where the bytes break.
+pub fault_breaks : (limits : Limits) (prefix : List ℕ) (b : ℕ) (more : List ℕ) (reason : Reason) → Clean limits start prefix → is_done (go start prefix).phase ≡ false → IsFault limits prefix b reason → Broken limits (prefix ++ b ∷ more) (length prefix + 1) reason
+fault_breaks limits prefix b more reason clean live fault = record {
+  prefix = prefix;
   byte = b;
-  behind = more;
+  after = more;
   is = refl;
   at = refl;
   fault = fault;
-  first = λ before x after other e low here.
-      let cut = split_front front (b ∷ more) before x after e low in
+  first = λ before x rest other e low here.
+      let cut = split_prefix prefix (b ∷ more) before x rest e low in
       no_fault_inside limits before x cut.0 other (subst (Clean limits start) cut.1 clean) (subst (λ (y : List ℕ). is_done (go start y).phase ≡ false) cut.1 live) here;
 }
 
 -- the bytes, by all but the last and the last
-at_last : (limits : Limits) (bytes front : List ℕ) (b : ℕ) (more : List ℕ) (reason : Reason) → bytes ≡ front ++ b ∷ [] → Broken limits (front ++ b ∷ more) (length front + 1) reason → Broken limits (bytes ++ more) (length bytes) reason
-at_last limits bytes front b more reason e broken =
-    let joined : bytes ++ more ≡ front ++ b ∷ more = ap (λ x. x ++ more) e ∙ append_assoc front (b ∷ []) more in
-    let size : length bytes ≡ length front + 1 = ap length e ∙ length-append front (b ∷ []) in
-    subst (λ (x : List ℕ). Broken limits x (length bytes) reason) (sym joined) (subst (λ (n : ℕ). Broken limits (front ++ b ∷ more) n reason) (sym size) broken)
+at_last : (limits : Limits) (bytes prefix : List ℕ) (b : ℕ) (more : List ℕ) (reason : Reason) → bytes ≡ prefix ++ b ∷ [] → Broken limits (prefix ++ b ∷ more) (length prefix + 1) reason → Broken limits (bytes ++ more) (length bytes) reason
+at_last limits bytes prefix b more reason e broken =
+    let joined : bytes ++ more ≡ prefix ++ b ∷ more = ap (λ x. x ++ more) e ∙ append_assoc prefix (b ∷ []) more in
+    let size : length bytes ≡ length prefix + 1 = ap length e ∙ length-append prefix (b ∷ []) in
+    subst (λ (x : List ℕ). Broken limits x (length bytes) reason) (sym joined) (subst (λ (n : ℕ). Broken limits (prefix ++ b ∷ more) n reason) (sym size) broken)
 
 clean_stuck : (limits : Limits) (bytes more : List ℕ) (reason : Reason) → Clean limits start bytes → (go start bytes).phase ≡ Stuck reason → Broken limits (bytes ++ more) (length bytes) reason
 clean_stuck limits [] more reason clean stuck = absurd (cc)
 clean_stuck limits (x ∷ xs) more reason clean stuck =
     let cut = ends_of x xs in
     let clean' = subst (Clean limits start) cut.is clean in
-    let here = clean_at limits start cut.front cut.last [] clean' in
-    let step = sym (ap (λ (r : Reading). r.phase) (go-append start cut.front (cut.last ∷ []))) ∙ sym (ap (λ (y : List ℕ). (go start y).phase) cut.is) ∙ stuck in
-    let fault = grammar_fault limits cut.front cut.last reason here.0 here.1 step in
-    at_last limits (x ∷ xs) cut.front cut.last more reason cut.is (fault_breaks limits cut.front cut.last more reason (clean_front limits start cut.front (cut.last ∷ []) clean') here.0 fault)
+    let here = clean_at limits start cut.prefix cut.last [] clean' in
+    let step = sym (ap (λ (r : Reading). r.phase) (go-append start cut.prefix (cut.last ∷ []))) ∙ sym (ap (λ (y : List ℕ). (go start y).phase) cut.is) ∙ stuck in
+    let fault = grammar_fault limits cut.prefix cut.last reason here.0 here.1 step in
+    at_last limits (x ∷ xs) cut.prefix cut.last more reason cut.is (fault_breaks limits cut.prefix cut.last more reason (clean_prefix limits start cut.prefix (cut.last ∷ []) clean') here.0 fault)
 
 -- before clean bytes no message is whole
-no_message : (limits : Limits) (front behind : List ℕ) (message : List Segment) → Clean limits start (front ++ behind) → is_done (go start (front ++ behind)).phase ≡ false → IsSpelling front message → ⊥
-no_message limits front [] message clean live is =
-    let at : is_done (go start front).phase ≡ false = subst (λ (y : List ℕ). is_done (go start y).phase ≡ false) (append-nil front) live in
-    let whole = ap (λ (s : Core). is_done s.phase) (sym (walk_go front) ∙ spelling_walk front message is) in
+no_message : (limits : Limits) (prefix after : List ℕ) (message : List Segment) → Clean limits start (prefix ++ after) → is_done (go start (prefix ++ after)).phase ≡ false → IsSpelling prefix message → ⊥
+no_message limits prefix [] message clean live is =
+    let at : is_done (go start prefix).phase ≡ false = subst (λ (y : List ℕ). is_done (go start y).phase ≡ false) (append-nil prefix) live in
+    let whole = ap (λ (s : Core). is_done s.phase) (sym (walk_go prefix) ∙ spelling_walk prefix message is) in
     let h : true ≡ false = sym whole ∙ at in cc
-no_message limits front (b ∷ bs) message clean live is =
-    let at = clean_live limits start front b bs clean in
-    let whole = ap (λ (s : Core). is_done s.phase) (sym (walk_go front) ∙ spelling_walk front message is) in
+no_message limits prefix (b ∷ bs) message clean live is =
+    let at = clean_live limits start prefix b bs clean in
+    let whole = ap (λ (s : Core). is_done s.phase) (sym (walk_go prefix) ∙ spelling_walk prefix message is) in
     let h : true ≡ false = sym whole ∙ at in cc
 
 -- a reading that stands at a fault
@@ -383,8 +383,8 @@ stuck_broken limits bytes more reason counted stuck =
       | inr broke ↦ (
           let same : Stuck broke.reason ≡ Stuck reason = sym broke.phase ∙ stuck in
           let is : broke.reason ≡ reason = cc in
-          let fault = limit_is_fault limits broke.front broke.byte reason broke.clean (broke.fault ∙ ap Some is) in
-          at_last limits bytes broke.front broke.byte more reason broke.is (fault_breaks limits broke.front broke.byte more reason broke.clean broke.live fault)
+          let fault = limit_is_fault limits broke.prefix broke.byte reason broke.clean (broke.fault ∙ ap Some is) in
+          at_last limits bytes broke.prefix broke.byte more reason broke.is (fault_breaks limits broke.prefix broke.byte more reason broke.clean broke.live fault)
           )
     ]
 
@@ -412,8 +412,8 @@ live_unfinished limits bytes counted live =
       | inl clean ↦ (
           let at : is_done (go start bytes).phase ≡ false = sym (ap (λ (x : Reading). is_done x.phase) clean.1) ∙ live in
           record {
-            unspelt = λ front behind message e spelt. no_message limits front behind message (subst (Clean limits start) e clean.0) (subst (λ (y : List ℕ). is_done (go start y).phase ≡ false) e at) spelt.spelling;
-            unbroken = λ place reason broken. no_fault_inside limits broken.front broken.byte broken.behind reason (subst (Clean limits start) broken.is clean.0) (subst (λ (y : List ℕ). is_done (go start y).phase ≡ false) broken.is at) broken.fault;
+            unspelt = λ prefix after message e spelt. no_message limits prefix after message (subst (Clean limits start) e clean.0) (subst (λ (y : List ℕ). is_done (go start y).phase ≡ false) e at) spelt.spelling;
+            unbroken = λ place reason broken. no_fault_inside limits broken.prefix broken.byte broken.after reason (subst (Clean limits start) broken.is clean.0) (subst (λ (y : List ℕ). is_done (go start y).phase ≡ false) broken.is at) broken.fault;
           }
           )
       | inr broke ↦ absurd (let h : true ≡ false = sym (ap is_done broke.phase) ∙ live in cc)

@@ -11,5 +11,5 @@ pub mod SpeltLemmas
 pub mod LawLemmas
 pub mod FeedLemmas
 pub mod CanonicalLemmas
-pub mod AnswerLemmas
+pub mod OutcomeLemmas
 pub mod SessionLemmas

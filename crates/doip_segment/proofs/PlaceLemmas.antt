@@ -8,7 +8,7 @@ use Rattle.doip_segment.specs.declared.message.Extent.{Extent}
 use Rattle.doip_segment.specs.Segments.{Segment, segment}
 use Rattle.doip_segment.specs.Place.{segment_at, segments_in, AreWithin}
 
--- a range that ends within the front stays as it is
+-- a range that ends within the prefix stays as it is
 pub range_stays : (a b : ℕ) (xs ys : List ℕ) → a ≤ b → b ≤ length xs → slice_range (xs ++ ys) a b ≡ slice_range xs a b
 range_stays a b xs ys low high =
     let inside : a ≤ length xs = omega arith in

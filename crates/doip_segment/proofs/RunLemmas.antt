@@ -91,10 +91,10 @@ no_feed zero xs none = tt
 no_feed (suc n) [] none = tt
 no_feed (suc n) (x ∷ xs) none = (none 0 (omega arith) (omega arith), no_feed n xs (λ k low within. none (suc k) (omega arith) (omega arith)))
 
--- what a search of the window tells of the bytes before a place
-seen_before : (rest : List ℕ) (window stop : ℕ) → stop ≤ window → ((k : ℕ) → 0 ≤ k → k < stop → eqb (get_or (take window rest) k 0) 10 ≡ true → ⊥) → NoLineFeed (take stop rest)
-seen_before rest window stop le none =
-    no_feed stop rest (λ k low within is.
+-- what a search of the window shows of the bytes before a place
+seen_before : (rest : List ℕ) (window end : ℕ) → end ≤ window → ((k : ℕ) → 0 ≤ k → k < end → eqb (get_or (take window rest) k 0) 10 ≡ true → ⊥) → NoLineFeed (take end rest)
+seen_before rest window end le none =
+    no_feed end rest (λ k low within is.
     none k (omega arith) low (
     let same : get_or (take window rest) k 0 ≡ get_or rest k 0 = get_or-take window rest k 0 (omega arith) in
     eq-eqb (get_or (take window rest) k 0) 10 (same ∙ is)
@@ -102,14 +102,14 @@ seen_before rest window stop le none =
     )
 
 -- text up to the end of its line
-pub text_ends : (limits : Limits) (r : Reading) (rest : List ℕ) (window stop : ℕ) → r.phase ≡ Text → stop < window → window ≤ length rest → ((k : ℕ) → 0 ≤ k → k < stop → eqb (get_or (take window rest) k 0) 10 ≡ true → ⊥) → eqb (get_or (take window rest) stop 0) 10 ≡ true → r.count + window ≤ limits.total → length r.pending + window ≤ limits.json + 1 → reading_of r.segments (r.pending ++ take stop rest) LineStart (r.count + (stop + 1)) ≡ run limits r (take (stop + 1) rest)
-text_ends limits r rest window stop phase low fits none here room json =
-    let at : get_or rest stop 0 ≡ 10 = sym (get_or-take window rest stop 0 low) ∙ eq_tests (get_or (take window rest) stop 0) 10 here in
-    let cut : take (stop + 1) rest ≡ take stop rest ++ 10 ∷ [] = take_more rest stop 0 (omega arith) ∙ ap (λ b. take stop rest ++ b ∷ []) at in
-    let size : length (take stop rest) ≡ stop = length-take-le stop rest (omega arith) in
-    let line = run-line limits r.segments r.pending r.count (take stop rest) (seen_before rest window stop (omega arith) none) (omega (arith, size)) (omega (arith, size)) in
-    let e : r.count + length (take stop rest) + 1 ≡ r.count + (stop + 1) = omega (arith, size) in
-    sym (ap (run limits r) cut ∙ ap (λ p. run limits (reading_of r.segments r.pending p r.count) (take stop rest ++ 10 ∷ [])) phase ∙ line ∙ ap (λ n. reading_of r.segments (r.pending ++ take stop rest) LineStart n) e)
+pub text_ends : (limits : Limits) (r : Reading) (rest : List ℕ) (window end : ℕ) → r.phase ≡ Text → end < window → window ≤ length rest → ((k : ℕ) → 0 ≤ k → k < end → eqb (get_or (take window rest) k 0) 10 ≡ true → ⊥) → eqb (get_or (take window rest) end 0) 10 ≡ true → r.count + window ≤ limits.total → length r.pending + window ≤ limits.json + 1 → reading_of r.segments (r.pending ++ take end rest) LineStart (r.count + (end + 1)) ≡ run limits r (take (end + 1) rest)
+text_ends limits r rest window end phase low fits none here room json =
+    let at : get_or rest end 0 ≡ 10 = sym (get_or-take window rest end 0 low) ∙ eq_tests (get_or (take window rest) end 0) 10 here in
+    let cut : take (end + 1) rest ≡ take end rest ++ 10 ∷ [] = take_more rest end 0 (omega arith) ∙ ap (λ b. take end rest ++ b ∷ []) at in
+    let size : length (take end rest) ≡ end = length-take-le end rest (omega arith) in
+    let line = run-line limits r.segments r.pending r.count (take end rest) (seen_before rest window end (omega arith) none) (omega (arith, size)) (omega (arith, size)) in
+    let e : r.count + length (take end rest) + 1 ≡ r.count + (end + 1) = omega (arith, size) in
+    sym (ap (run limits r) cut ∙ ap (λ p. run limits (reading_of r.segments r.pending p r.count) (take end rest ++ 10 ∷ [])) phase ∙ line ∙ ap (λ n. reading_of r.segments (r.pending ++ take end rest) LineStart n) e)
 
 -- text without the end of its line
 pub text_goes : (limits : Limits) (r : Reading) (rest : List ℕ) (window : ℕ) → r.phase ≡ Text → window ≤ length rest → ((k : ℕ) → 0 ≤ k → k < length (take window rest) → eqb (get_or (take window rest) k 0) 10 ≡ true → ⊥) → r.count + window ≤ limits.total → length r.pending + window ≤ limits.json + 1 → reading_of r.segments (r.pending ++ take window rest) Text (r.count + window) ≡ run limits r (take window rest)

@@ -1,4 +1,4 @@
--- A spelling within the limits is read to its end, whatever comes behind it.
+-- A spelling within the limits is read to its end, whatever comes after it.
 use Rattle.std.proofs.Common.{◌≡◌, ℕ, zero, suc, ◌+◌, ◌-◌, ◌*◌, ◌≤◌, ◌<◌, List, [], ◌∷◌, ◌++◌, length, Bool, true, false, cond, Option, Some, None, refl, sym, ap, ◌∙◌, subst, arith, length-append, leb, ltb, ◌&&◌}
 use Rattle.std.specs.List.{AllByRecursion}
 use Rattle.std.proofs.lemmas.Bool.{lt-leb, le-ltb}
@@ -13,7 +13,7 @@ use Rattle.doip_segment.specs.declared.phase.Phase.TheVariants.{Due, Text, LineS
 use Rattle.doip_segment.specs.Segments.{Segment, segment}
 use Rattle.doip_segment.specs.Framing.{HoldsLimit, Spelt}
 use Rattle.doip_segment.specs.Machine.{class_of, data_due, next_phase, added, closed, kept, limit_fault, passes_json, begins, stepped, stepped_within, run, is_done, Reading, start}
-use Rattle.doip_segment.specs.Decoding.{opened}
+use Rattle.doip_segment.specs.Advance.{opened}
 use Rattle.doip_segment.proofs.RunLemmas.{run-append}
 use Rattle.doip_segment.proofs.WalkLemmas.{Core, core, moved, walk, spelling_walk, stuck_walk}
 use Rattle.doip_segment.proofs.CleanLemmas.{go, core_of, core_go, count_go, Clean, run_done, live_step}
@@ -38,7 +38,7 @@ abbrev IsSafe : Phase → Type 0
 IsSafe (Stuck reason) = ⊥
 IsSafe _ = Unit {0}
 
--- what a byte tells of the place before it, where the place behind it can end within the limits
+-- what a byte shows of the place before it, where the place after it can end within the limits
 record Before (limits : Limits) (p : Phase) (c : Class) (n size : ℕ) : Type 0 where
   fits : passes_json limits.json p c size ≡ false
   few : (begins p c && leb 2048 n) ≡ false
@@ -103,9 +103,9 @@ before_open limits MessageEnd _ b n size shut safe few up = absurd safe
 before_open limits Whole c b n size shut safe few up = absurd safe
 before_open limits (Stuck reason) c b n size shut safe few up = absurd safe
 
-all_front : {X : Type 0} (P : X → Type 0) (xs : List X) (x : X) → AllByRecursion P (xs ++ x ∷ []) → AllByRecursion P xs × P x
-all_front P [] x all = (tt, all.0)
-all_front P (y ∷ xs) x all = let later = all_front P xs x all.1 in ((all.0, later.0), later.1)
+all_prefix : {X : Type 0} (P : X → Type 0) (xs : List X) (x : X) → AllByRecursion P (xs ++ x ∷ []) → AllByRecursion P xs × P x
+all_prefix P [] x all = (tt, all.0)
+all_prefix P (y ∷ xs) x all = let later = all_prefix P xs x all.1 in ((all.0, later.0), later.1)
 
 -- the byte that closes a segment
 before_closed : (limits : Limits) (p : Phase) (c : Class) (n : ℕ) (pending : List ℕ) (kind : Kind) → closed p c ≡ Some kind → n + 1 ≤ 2048 → HoldsLimit limits kind pending → Before limits p c n (length pending)
@@ -138,7 +138,7 @@ before_step : (limits : Limits) (segments : List Segment) (pending : List ℕ) (
 before_step limits segments pending p c b None is safe can =
     (before_open limits p c b (length segments) (length pending) is safe can.segments (subst (HoldsUp limits.json (next_phase p c)) (length-append pending (added p c b)) can.pending), can.json)
 before_step limits segments pending p c b (Some kind) is safe can =
-    let all = all_front (λ (s : Segment). HoldsLimit limits s.kind s.bytes) segments (segment kind pending) can.json in
+    let all = all_prefix (λ (s : Segment). HoldsLimit limits s.kind s.bytes) segments (segment kind pending) can.json in
     let size = length-append segments (segment kind pending ∷ []) in
     (before_closed limits p c (length segments) pending kind is (omega (arith, can.segments, size)) all.1, all.0)
 
@@ -216,6 +216,6 @@ spelt_run limits bytes message spelt =
     let at = core_go start bytes ∙ spelling_walk bytes message spelt.spelling in
     subst (λ (r : Reading). ReadsTo r bytes message) (sym same) (record { phase = ap (λ (s : Core). s.phase) at; segments = ap (λ (s : Core). s.segments) at; count = count_go start bytes ∙ (let e : 0 + length bytes ≡ length bytes = omega arith in e) })
 
--- nothing is read behind it
-pub run_behind : (limits : Limits) (bytes behind : List ℕ) → is_done (run limits start bytes).phase ≡ true → run limits start (bytes ++ behind) ≡ run limits start bytes
-run_behind limits bytes behind done = run-append limits start bytes behind ∙ run_done limits (run limits start bytes) behind done
+-- nothing is read after it
+pub run_after : (limits : Limits) (bytes after : List ℕ) → is_done (run limits start bytes).phase ≡ true → run limits start (bytes ++ after) ≡ run limits start bytes
+run_after limits bytes after done = run-append limits start bytes after ∙ run_done limits (run limits start bytes) after done

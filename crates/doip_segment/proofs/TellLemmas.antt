@@ -1,4 +1,4 @@
--- What each place of the machine tells of the bytes that led to it.
+-- What each place of the machine shows of the bytes that led to it.
 use Rattle.std.proofs.Common.{◌≡◌, ◌≢◌, ℕ, zero, suc, ◌+◌, ◌-◌, ◌*◌, ◌≤◌, ◌<◌, inl, inr, List, [], ◌∷◌, ◌++◌, length, map, Bool, true, false, cond, None, refl, sym, ap, ◌∙◌, subst, arith, append_assoc, length-append, eqb, ltb}
 use Rattle.std.specs.List.{flat_map, AllByRecursion}
 use Rattle.std.proofs.lemmas.List.{append-nil, map-append}
@@ -40,7 +40,7 @@ pub opens_push : (text : List ℕ) (b : ℕ) → OpensText text → (ends_line f
 opens_push [] b opens last = absurd opens
 opens_push (x ∷ text) b opens last = (opens.0, free_push false (x ∷ text) b opens.1 last)
 
--- bytes of a byte segment, behind the parts before it: its whole chunks have this content, and then come these bytes
+-- bytes of a byte segment, after the parts before it: its whole chunks have this content, and then come these bytes
 pub record Chunks (content tail inner : List ℕ) : Type 0 where
   pub white : List ℕ
   pub blanks : List ℕ
@@ -48,7 +48,7 @@ pub record Chunks (content tail inner : List ℕ) : Type 0 where
   pub are_white : AllByRecursion IsWhite white
   pub are_blank : AllByRecursion IsBlank blanks
   pub are_chunks : AllByRecursion IsChunk chunks
-  pub says : content ≡ flat_map content_of chunks
+  pub message_is : content ≡ flat_map content_of chunks
   pub is : tail ≡ white ++ 64 ∷ (blanks ++ 10 ∷ (flat_map chunk_bytes chunks ++ inner))
 
 -- a chunk's length and some of its data
@@ -60,15 +60,15 @@ pub record DataTail (left : ℕ) (pending tail : List ℕ) : Type 0 where
   pub is_length : IsLength digits
   pub are_blank : AllByRecursion IsBlank blanks
   pub size : value_of digits ≡ length content + left
-  pub says : pending ≡ before ++ content
+  pub message_is : pending ≡ before ++ content
   pub inside : Chunks before tail (digits ++ (blanks ++ 10 ∷ content))
 
 -- white bytes and then text
-pub record TextTail (pending tail behind : List ℕ) : Type 0 where
+pub record TextTail (pending tail after : List ℕ) : Type 0 where
   pub white : List ℕ
   pub are_white : AllByRecursion IsWhite white
   pub opens : OpensText pending
-  pub is : tail ≡ white ++ (pending ++ behind)
+  pub is : tail ≡ white ++ (pending ++ after)
 
 -- white bytes, and then a byte and blanks
 pub record MarkTail (mark : ℕ) (tail : List ℕ) : Type 0 where
@@ -93,7 +93,7 @@ pub record PaddingTail (v : ℕ) (pending tail : List ℕ) : Type 0 where
   pub value : value_of digits ≡ v
   pub inside : Chunks pending tail (digits ++ blanks)
 
--- what a place tells of the bytes behind the whole parts
+-- what a place shows of the bytes after the whole parts
 abbrev pub Tail : Phase → List ℕ → List ℕ → Type 0
 Tail Due pending tail = (pending ≡ []) × AllByRecursion IsWhite tail
 Tail Text pending tail = (ends_line false pending ≡ false) × TextTail pending tail []
@@ -107,7 +107,7 @@ Tail (Data left) pending tail = (0 < left) × DataTail left pending tail
 Tail DataEnd pending tail = DataTail 0 pending tail
 Tail BytesEnd pending tail = (closing : List ℕ) × AllByRecursion IsBlank closing × Chunks pending tail (35 ∷ closing)
 Tail MessageEnd pending tail = (pending ≡ []) × MarkTail 35 tail
-Tail Whole pending tail = (pending ≡ []) × (front : List ℕ) × MarkTail 35 front × (tail ≡ front ++ 10 ∷ [])
+Tail Whole pending tail = (pending ≡ []) × (prefix : List ℕ) × MarkTail 35 prefix × (tail ≡ prefix ++ 10 ∷ [])
 Tail (Stuck reason) pending tail = Unit {0}
 
 chunks_more : (content tail inner : List ℕ) (b : ℕ) → Chunks content tail inner → Chunks content (tail ++ b ∷ []) (inner ++ b ∷ [])
@@ -118,7 +118,7 @@ chunks_more content tail inner b t = record {
   are_white = t.are_white;
   are_blank = t.are_blank;
   are_chunks = t.are_chunks;
-  says = t.says;
+  message_is = t.message_is;
   is = ap (λ x. x ++ b ∷ []) t.is ∙ simp append_assoc;
 }
 
@@ -134,8 +134,8 @@ mark_more mark tail b t blank = record {
   is = ap (λ x. x ++ b ∷ []) t.is ∙ append_assoc t.white (mark ∷ t.blanks) (b ∷ []);
 }
 
-text_more : (pending tail behind : List ℕ) (b : ℕ) → TextTail pending tail behind → TextTail pending (tail ++ b ∷ []) (behind ++ b ∷ [])
-text_more pending tail behind b t = record { white = t.white; are_white = t.are_white; opens = t.opens; is = ap (λ x. x ++ b ∷ []) t.is ∙ simp append_assoc }
+text_more : (pending tail after : List ℕ) (b : ℕ) → TextTail pending tail after → TextTail pending (tail ++ b ∷ []) (after ++ b ∷ [])
+text_more pending tail after b t = record { white = t.white; are_white = t.are_white; opens = t.opens; is = ap (λ x. x ++ b ∷ []) t.is ∙ simp append_assoc }
 
 data_tail : (left : ℕ) (pending tail : List ℕ) → DataTail left pending tail → Tail (data_due left) pending tail
 data_tail zero pending tail t = t
@@ -216,7 +216,7 @@ text_next b pending tail other t = (
   },
 )
 
--- the line feed that waited is text, and the byte behind it too
+-- the line feed that waited is text, and the byte after it too
 line_next : (b : ℕ) (pending tail : List ℕ) → b ≢ 10 → b ≢ 35 → Tail LineStart pending tail → Tail Text (pending ++ 10 ∷ b ∷ []) (tail ++ b ∷ [])
 line_next b pending tail other hash t =
     let once = opens_push pending 10 t.opens (λ h e. absurd (omega (arith, e))) in
@@ -240,11 +240,11 @@ line_again b pending tail feed t = record {
   is = ap (λ x. tail ++ x ∷ []) feed ∙ ap (λ x. x ++ 10 ∷ []) t.is ∙ simp append_assoc;
 }
 
-text_behind : (b mark : ℕ) (pending tail behind : List ℕ) → b ≡ mark → TextTail pending tail behind → TextTail (pending ++ []) (tail ++ b ∷ []) (behind ++ mark ∷ [])
-text_behind b mark pending tail behind e t =
-    let more = text_more pending tail behind b t in
-    let here = subst (λ (x : ℕ). TextTail pending (tail ++ b ∷ []) (behind ++ x ∷ [])) e more in
-    subst (λ (x : List ℕ). TextTail x (tail ++ b ∷ []) (behind ++ mark ∷ [])) (sym (append-nil pending)) here
+text_after : (b mark : ℕ) (pending tail after : List ℕ) → b ≡ mark → TextTail pending tail after → TextTail (pending ++ []) (tail ++ b ∷ []) (after ++ mark ∷ [])
+text_after b mark pending tail after e t =
+    let more = text_more pending tail after b t in
+    let here = subst (λ (x : ℕ). TextTail pending (tail ++ b ∷ []) (after ++ x ∷ [])) e more in
+    subst (λ (x : List ℕ). TextTail x (tail ++ b ∷ []) (after ++ mark ∷ [])) (sym (append-nil pending)) here
 
 marks_tail : (b mark : ℕ) (tail : List ℕ) → b ≡ mark → AllByRecursion IsWhite tail → MarkTail mark (tail ++ b ∷ [])
 marks_tail b mark tail e white = record { white = tail; blanks = []; are_white = white; are_blank = tt; is = ap (λ x. tail ++ x ∷ []) e }
@@ -258,7 +258,7 @@ no_chunk b pending tail feed none t = record {
   are_white = t.are_white;
   are_blank = t.are_blank;
   are_chunks = tt;
-  says = nil_kept pending none;
+  message_is = nil_kept pending none;
   is = ap (λ x. tail ++ x ∷ []) feed ∙ ap (λ x. x ++ 10 ∷ []) t.is ∙ append_assoc t.white (64 ∷ t.blanks) (10 ∷ []);
 }
 
@@ -298,7 +298,7 @@ data_begins v b digits blanks pending tail feed is all value t =
       is_length = is;
       are_blank = all;
       size = omega (arith, value);
-      says = refl;
+      message_is = refl;
       inside = chunks_as pending (tail ++ b ∷ []) _ _ inner (chunks_more pending tail (digits ++ blanks) b t);
     }
 
@@ -313,7 +313,7 @@ data_next left b pending tail low t =
       is_length = t.is_length;
       are_blank = t.are_blank;
       size = omega (arith, t.size, length-append t.content (b ∷ []));
-      says = ap (λ x. x ++ b ∷ []) t.says ∙ append_assoc t.before t.content (b ∷ []);
+      message_is = ap (λ x. x ++ b ∷ []) t.message_is ∙ append_assoc t.before t.content (b ∷ []);
       inside = chunks_as t.before (tail ++ b ∷ []) _ _ inner (chunks_more t.before tail _ b t.inside);
     }
 
@@ -331,7 +331,7 @@ chunk_ends b pending tail feed t =
       are_white = t.inside.are_white;
       are_blank = t.inside.are_blank;
       are_chunks = all_push IsChunk old chunk t.inside.are_chunks (record { is_length = t.is_length; are_blank = t.are_blank; size = size });
-      says = append-nil pending ∙ t.says ∙ ap (λ x. x ++ t.content) t.inside.says ∙ sym (flat_map_push content_of old chunk);
+      message_is = append-nil pending ∙ t.message_is ∙ ap (λ x. x ++ t.content) t.inside.message_is ∙ sym (flat_map_push content_of old chunk);
       is = ap (λ x. tail ++ x ∷ []) feed ∙ ap (λ x. x ++ 10 ∷ []) t.inside.is ∙ rw joined (simp (append_assoc, append-nil));
     }
 
@@ -346,7 +346,7 @@ tail_step Due Hash b pending tail k shut t = (nil_kept pending t.0, marks_tail b
 tail_step Due At b pending tail k shut t = (nil_kept pending t.0, marks_tail b 64 tail k t.1)
 tail_step Due (Digit d) b pending tail k shut t = text_first b pending tail (digit_begins b k.0 k.1) t.0 t.1
 tail_step Due Other b pending tail k shut t = text_first b pending tail (other_begins b k) t.0 t.1
-tail_step Text LineFeed b pending tail k shut t = text_behind b 10 pending tail [] k t.1
+tail_step Text LineFeed b pending tail k shut t = text_after b 10 pending tail [] k t.1
 tail_step Text Blank b pending tail k shut t = text_next b pending tail (blank_no_feed b k) t
 tail_step Text Hash b pending tail k shut t = text_next b pending tail (λ e. omega (arith, k, e)) t
 tail_step Text At b pending tail k shut t = text_next b pending tail (λ e. omega (arith, k, e)) t
@@ -354,12 +354,12 @@ tail_step Text (Digit d) b pending tail k shut t = text_next b pending tail (λ 
 tail_step Text Other b pending tail k shut t = text_next b pending tail k.0 t
 tail_step LineStart LineFeed b pending tail k shut t = line_again b pending tail k t
 tail_step LineStart Blank b pending tail k shut t = line_next b pending tail (blank_no_feed b k) (blank_no_hash b k) t
-tail_step LineStart Hash b pending tail k shut t = ([], tt, text_behind b 35 pending tail (10 ∷ []) k t)
+tail_step LineStart Hash b pending tail k shut t = ([], tt, text_after b 35 pending tail (10 ∷ []) k t)
 tail_step LineStart At b pending tail k shut t = line_next b pending tail (λ e. omega (arith, k, e)) (λ e. omega (arith, k, e)) t
 tail_step LineStart (Digit d) b pending tail k shut t = line_next b pending tail (λ e. omega (arith, k.0, e)) (λ e. omega (arith, k.0, e)) t
 tail_step LineStart Other b pending tail k shut t = line_next b pending tail k.0 k.4 t
 tail_step JsonEnd LineFeed b pending tail k shut t = absurd (cc)
-tail_step JsonEnd Blank b pending tail k shut t = (t.0 ++ b ∷ [], all_push IsBlank t.0 b t.1 k, text_behind b b pending tail (10 ∷ 35 ∷ t.0) refl t.2)
+tail_step JsonEnd Blank b pending tail k shut t = (t.0 ++ b ∷ [], all_push IsBlank t.0 b t.1 k, text_after b b pending tail (10 ∷ 35 ∷ t.0) refl t.2)
 tail_step JsonEnd _ b pending tail k shut t = tt
 tail_step BytesStart LineFeed b pending tail k shut t = no_chunk b pending tail k t.0 t.1
 tail_step BytesStart Blank b pending tail k shut t = (nil_kept pending t.0, mark_more 64 tail b t.1 k)
@@ -400,14 +400,14 @@ tail_step MessageEnd _ b pending tail k shut t = tt
 tail_step Whole _ b pending tail k shut t = tt
 tail_step (Stuck reason) _ b pending tail k shut t = tt
 
--- what is read tells which bytes led to it
+-- what is read shows which bytes led to it
 pub record Told (s : Core) (bytes : List ℕ) : Type 0 where
   pub parts : List Part
   pub tail : List ℕ
   pub are_parts : AllByRecursion IsPart parts
-  pub says : s.segments ≡ map segment_of_part parts
+  pub message_is : s.segments ≡ map segment_of_part parts
   pub is : bytes ≡ flat_map part_bytes parts ++ tail
-  pub behind : Tail s.phase s.pending tail
+  pub after : Tail s.phase s.pending tail
 
 told_open : (s : Core) (c : Class) (b : ℕ) (bytes : List ℕ) → Classified b c → closed s.phase c ≡ None → Told s bytes → Told (moved s c b) (bytes ++ b ∷ [])
 told_open s c b bytes k shut t =
@@ -416,9 +416,9 @@ told_open s c b bytes k shut t =
       parts = t.parts;
       tail = t.tail ++ b ∷ [];
       are_parts = t.are_parts;
-      says = t.says;
+      message_is = t.message_is;
       is = ap (λ x. x ++ b ∷ []) t.is ∙ append_assoc (flat_map part_bytes t.parts) t.tail (b ∷ []);
-      behind = tail_step s.phase c b s.pending t.tail k shut t.behind;
+      after = tail_step s.phase c b s.pending t.tail k shut t.after;
     } in
     subst (λ (x : Core). Told x (bytes ++ b ∷ [])) (sym same) more
 
@@ -428,30 +428,30 @@ text_is (b ∷ bs) opens = opens
 
 told_json : (segments : List Segment) (pending : List ℕ) (b : ℕ) (bytes : List ℕ) → b ≡ 10 → Told (core segments pending JsonEnd) bytes → Told (core (segments ++ segment kinds.Json pending ∷ []) [] Due) (bytes ++ b ∷ [])
 told_json segments pending b bytes feed t =
-    let text = t.behind.2 in
-    let part = TextPart text.white pending t.behind.0 in
-    let joined : flat_map part_bytes (t.parts ++ part ∷ []) ≡ flat_map part_bytes t.parts ++ (text.white ++ (pending ++ (10 ∷ 35 ∷ (t.behind.0 ++ 10 ∷ [])))) = flat_map_push part_bytes t.parts part ∙ ap (λ x. flat_map part_bytes t.parts ++ x) (simp append_assoc) in
+    let text = t.after.2 in
+    let part = TextPart text.white pending t.after.0 in
+    let joined : flat_map part_bytes (t.parts ++ part ∷ []) ≡ flat_map part_bytes t.parts ++ (text.white ++ (pending ++ (10 ∷ 35 ∷ (t.after.0 ++ 10 ∷ [])))) = flat_map_push part_bytes t.parts part ∙ ap (λ x. flat_map part_bytes t.parts ++ x) (simp append_assoc) in
     record {
       parts = t.parts ++ part ∷ [];
       tail = [];
-      are_parts = all_push IsPart t.parts part t.are_parts (text.are_white, text_is pending text.opens, t.behind.1);
-      says = ap (λ x. x ++ segment kinds.Json pending ∷ []) t.says ∙ sym (map-append segment_of_part t.parts (part ∷ []));
+      are_parts = all_push IsPart t.parts part t.are_parts (text.are_white, text_is pending text.opens, t.after.1);
+      message_is = ap (λ x. x ++ segment kinds.Json pending ∷ []) t.message_is ∙ sym (map-append segment_of_part t.parts (part ∷ []));
       is = ap (λ x. bytes ++ x ∷ []) feed ∙ ap (λ x. x ++ 10 ∷ []) t.is ∙ ap (λ x. (flat_map part_bytes t.parts ++ x) ++ 10 ∷ []) text.is ∙ rw joined (simp (append_assoc, append-nil));
-      behind = (refl, tt);
+      after = (refl, tt);
     }
 
 told_bytes : (segments : List Segment) (pending : List ℕ) (b : ℕ) (bytes : List ℕ) → b ≡ 10 → Told (core segments pending BytesEnd) bytes → Told (core (segments ++ segment kinds.Bytes pending ∷ []) [] Due) (bytes ++ b ∷ [])
 told_bytes segments pending b bytes feed t =
-    let inside = t.behind.2 in
-    let part = BytesPart inside.white inside.blanks inside.chunks t.behind.0 in
-    let joined : flat_map part_bytes (t.parts ++ part ∷ []) ≡ flat_map part_bytes t.parts ++ (inside.white ++ 64 ∷ (inside.blanks ++ 10 ∷ (flat_map chunk_bytes inside.chunks ++ (35 ∷ (t.behind.0 ++ 10 ∷ []))))) = flat_map_push part_bytes t.parts part ∙ ap (λ x. flat_map part_bytes t.parts ++ x) (simp append_assoc) in
+    let inside = t.after.2 in
+    let part = BytesPart inside.white inside.blanks inside.chunks t.after.0 in
+    let joined : flat_map part_bytes (t.parts ++ part ∷ []) ≡ flat_map part_bytes t.parts ++ (inside.white ++ 64 ∷ (inside.blanks ++ 10 ∷ (flat_map chunk_bytes inside.chunks ++ (35 ∷ (t.after.0 ++ 10 ∷ []))))) = flat_map_push part_bytes t.parts part ∙ ap (λ x. flat_map part_bytes t.parts ++ x) (simp append_assoc) in
     record {
       parts = t.parts ++ part ∷ [];
       tail = [];
-      are_parts = all_push IsPart t.parts part t.are_parts (inside.are_white, inside.are_blank, inside.are_chunks, t.behind.1);
-      says = ap (λ x. x ++ segment kinds.Bytes pending ∷ []) t.says ∙ ap (λ x. map segment_of_part t.parts ++ segment kinds.Bytes x ∷ []) inside.says ∙ sym (map-append segment_of_part t.parts (part ∷ []));
+      are_parts = all_push IsPart t.parts part t.are_parts (inside.are_white, inside.are_blank, inside.are_chunks, t.after.1);
+      message_is = ap (λ x. x ++ segment kinds.Bytes pending ∷ []) t.message_is ∙ ap (λ x. map segment_of_part t.parts ++ segment kinds.Bytes x ∷ []) inside.message_is ∙ sym (map-append segment_of_part t.parts (part ∷ []));
       is = ap (λ x. bytes ++ x ∷ []) feed ∙ ap (λ x. x ++ 10 ∷ []) t.is ∙ ap (λ x. (flat_map part_bytes t.parts ++ x) ++ 10 ∷ []) inside.is ∙ rw joined (simp (append_assoc, append-nil));
-      behind = (refl, tt);
+      after = (refl, tt);
     }
 
 -- one byte more
@@ -473,16 +473,16 @@ told_step segments pending MessageEnd c b bytes k t = told_open (core segments p
 told_step segments pending Whole c b bytes k t = told_open (core segments pending Whole) c b bytes k refl t
 told_step segments pending (Stuck reason) c b bytes k t = told_open (core segments pending (Stuck reason)) c b bytes k refl t
 
-told_on : (s : Core) (front bytes : List ℕ) → Told s front → Told (walk s bytes) (front ++ bytes)
-told_on s front [] t = subst (Told s) (sym (append-nil front)) t
-told_on s front (b ∷ bs) t =
-    let one = told_step s.segments s.pending s.phase (class_of b) b front (classified b) t in
-    let more = told_on (moved s (class_of b) b) (front ++ b ∷ []) bs one in
-    subst (Told (walk s (b ∷ bs))) (append_assoc front (b ∷ []) bs) more
+told_on : (s : Core) (prefix bytes : List ℕ) → Told s prefix → Told (walk s bytes) (prefix ++ bytes)
+told_on s prefix [] t = subst (Told s) (sym (append-nil prefix)) t
+told_on s prefix (b ∷ bs) t =
+    let one = told_step s.segments s.pending s.phase (class_of b) b prefix (classified b) t in
+    let more = told_on (moved s (class_of b) b) (prefix ++ b ∷ []) bs one in
+    subst (Told (walk s (b ∷ bs))) (append_assoc prefix (b ∷ []) bs) more
 
 -- whatever was read
 pub told : (bytes : List ℕ) → Told (walk outset bytes) bytes
-told bytes = told_on outset [] bytes (record { parts = []; tail = []; are_parts = tt; says = refl; is = refl; behind = (refl, tt) })
+told bytes = told_on outset [] bytes (record { parts = []; tail = []; are_parts = tt; message_is = refl; is = refl; after = (refl, tt) })
 
 pub told_at : (s : Core) (bytes : List ℕ) → walk outset bytes ≡ s → Told s bytes
 told_at s bytes e = subst (λ (x : Core). Told x bytes) e (told bytes)
@@ -491,7 +491,7 @@ told_at s bytes e = subst (λ (x : Core). Told x bytes) e (told bytes)
 pub whole_spelling : (message : List Segment) (pending bytes : List ℕ) → walk outset bytes ≡ core message pending Whole → IsSpelling bytes message
 whole_spelling message pending bytes e =
     let t = told_at (core message pending Whole) bytes e in
-    let mark = t.behind.2 in
+    let mark = t.after.2 in
     record {
       parts = t.parts;
       white = mark.white;
@@ -499,6 +499,6 @@ whole_spelling message pending bytes e =
       are_parts = t.are_parts;
       are_white = mark.are_white;
       are_blank = mark.are_blank;
-      spelled = t.is ∙ ap (λ x. flat_map part_bytes t.parts ++ x) (t.behind.3 ∙ ap (λ x. x ++ 10 ∷ []) mark.is) ∙ simp append_assoc;
-      says = t.says;
+      spelled = t.is ∙ ap (λ x. flat_map part_bytes t.parts ++ x) (t.after.3 ∙ ap (λ x. x ++ 10 ∷ []) mark.is) ∙ simp append_assoc;
+      message_is = t.message_is;
     }

@@ -116,7 +116,7 @@ abbrev pub unless_feed : Bool → ℕ → List ℕ
 unless_feed true b = []
 unless_feed false b = b ∷ []
 
--- the content behind text, without a line feed that waits
+-- the content after text, without a line feed that waits
 abbrev pub text_kept : Bool → List ℕ → List ℕ → List ℕ
 text_kept line pending [] = pending
 text_kept line pending (b ∷ bs) = text_kept (eqb b 10) (pending ++ (waiting line ++ unless_feed (eqb b 10) b)) bs
@@ -200,7 +200,7 @@ text_begins segments b bs begins free =
     let off = subst (λ t. NoHash t bs) (begins_line b begins) free.1 in
     ap (λ s. walk s bs) (begin_class b (class_of b) (classified b) begins segments) ∙ text_walk segments (b ∷ []) false bs off
 
--- a line feed and `#` behind text
+-- a line feed and `#` after text
 feed_then_hash : (segments : List Segment) (pending : List ℕ) (line : Bool) → walk (core segments pending (text_phase line)) (10 ∷ 35 ∷ []) ≡ core segments (pending ++ (waiting line ++ []) ++ []) JsonEnd
 feed_then_hash segments pending true = refl
 feed_then_hash segments pending false = refl
@@ -270,9 +270,9 @@ padding_walk segments pending n v (b ∷ bs) all =
     ∙ ap (λ p. walk (core segments p (Padding v)) bs) (append-nil pending)
     ∙ blanks_walk segments pending (Padding v) bs (padding_stays v) all.1
 
-feed_behind_length : (segments : List Segment) (pending : List ℕ) (n v : ℕ) (bs : List ℕ) → walk (core segments pending (length_phase n v bs)) (10 ∷ []) ≡ core segments pending (data_due v)
-feed_behind_length segments pending n v [] = ap (λ p. core segments p (data_due v)) (append-nil pending)
-feed_behind_length segments pending n v (b ∷ bs) = ap (λ p. core segments p (data_due v)) (append-nil pending)
+feed_after_length : (segments : List Segment) (pending : List ℕ) (n v : ℕ) (bs : List ℕ) → walk (core segments pending (length_phase n v bs)) (10 ∷ []) ≡ core segments pending (data_due v)
+feed_after_length segments pending n v [] = ap (λ p. core segments p (data_due v)) (append-nil pending)
+feed_after_length segments pending n v (b ∷ bs) = ap (λ p. core segments p (data_due v)) (append-nil pending)
 
 -- data
 pub data_walk : (segments : List Segment) (pending : List ℕ) (left : ℕ) (xs : List ℕ) → length xs ≤ left → walk (core segments pending (data_due left)) xs ≡ core segments (pending ++ xs) (data_due (left - length xs))
@@ -298,7 +298,7 @@ chunk_opens segments pending digits blanks content is all within =
     ∙ ap (λ s. walk s (ending blanks)) (length_walk segments pending digits is)
     ∙ walk-append (core segments pending (Digits (length digits) (value_of digits))) blanks (10 ∷ [])
     ∙ ap (λ s. walk s (10 ∷ [])) (padding_walk segments pending (length digits) (value_of digits) blanks all)
-    ∙ feed_behind_length segments pending (length digits) (value_of digits) blanks
+    ∙ feed_after_length segments pending (length digits) (value_of digits) blanks
     )
     ∙ data_walk segments pending (value_of digits) content within
 
@@ -319,7 +319,7 @@ chunks_walk segments pending (c ∷ cs) all =
     ∙ chunks_walk segments (pending ++ c.content) cs all.1
     ∙ ap (λ p. core segments p ChunkDue) (append_assoc pending c.content (flat_map content_of cs))
 
--- a byte segment, up to where a chunk is due behind whole chunks
+-- a byte segment, up to where a chunk is due after whole chunks
 pub bytes_opens : (segments : List Segment) (blanks : List ℕ) (cs : List Chunk) → AllByRecursion IsBlank blanks → AllByRecursion IsChunk cs → walk (core segments [] Due) (64 ∷ [] ++ ending blanks ++ flat_map chunk_bytes cs) ≡ core segments (flat_map content_of cs) ChunkDue
 bytes_opens segments blanks cs all are =
     walk-append (core segments [] Due) (64 ∷ [] ++ ending blanks) (flat_map chunk_bytes cs)
@@ -372,18 +372,18 @@ due_walk parts white are all =
 pub spelling_walk : (bytes : List ℕ) (message : List Segment) → IsSpelling bytes message → walk outset bytes ≡ core message [] Whole
 spelling_walk bytes message is =
     let segments = map segment_of_part is.parts in
-    let front = flat_map part_bytes is.parts ++ is.white in
+    let prefix = flat_map part_bytes is.parts ++ is.white in
     ap (walk outset) is.spelled
-    ∙ walk-append outset (front ++ 35 ∷ []) (ending is.blanks)
-    ∙ ap (λ s. walk s (ending is.blanks)) (walk-append outset front (35 ∷ []) ∙ ap (λ s. walk s (35 ∷ [])) (due_walk is.parts is.white is.are_parts is.are_white))
+    ∙ walk-append outset (prefix ++ 35 ∷ []) (ending is.blanks)
+    ∙ ap (λ s. walk s (ending is.blanks)) (walk-append outset prefix (35 ∷ []) ∙ ap (λ s. walk s (35 ∷ [])) (due_walk is.parts is.white is.are_parts is.are_white))
     ∙ ending_walk segments [] MessageEnd is.blanks message_end_stays is.are_blank
-    ∙ ap (λ x. core x [] Whole) (sym is.says)
+    ∙ ap (λ x. core x [] Whole) (sym is.message_is)
 
 -- a fault stays
 pub stuck_walk : (segments : List Segment) (pending bytes : List ℕ) (reason : Reason) → (walk (core segments pending (Stuck reason)) bytes).phase ≡ Stuck reason
 stuck_walk segments pending [] reason = refl
 stuck_walk segments pending (b ∷ bs) reason = stuck_walk segments (pending ++ []) bs reason
 
--- a byte behind a whole message is a fault
+-- a byte after a whole message is a fault
 pub whole_walk : (segments : List Segment) (pending : List ℕ) (b : ℕ) (bytes : List ℕ) → (walk (core segments pending Whole) (b ∷ bytes)).phase ≡ Stuck reasons.Marker
 whole_walk segments pending b bytes = stuck_walk segments (pending ++ []) bytes reasons.Marker

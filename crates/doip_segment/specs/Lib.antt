@@ -5,4 +5,5 @@ pub mod Framing
 pub mod Place
 pub mod Machine
 pub mod Decoding
+pub mod Advance
 pub mod Session

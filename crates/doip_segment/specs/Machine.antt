@@ -7,15 +7,26 @@ use Rattle.doip_segment.specs.declared.class.Class.TheVariants.{LineFeed, Blank,
 use Rattle.doip_segment.specs.declared.outcome.Limits.{Limits}
 use Rattle.doip_segment.specs.declared.outcome.Reason.{Reason}
 use Rattle.doip_segment.specs.declared.outcome.Reason.TheVariants as reasons
+use Rattle.doip_segment.specs.declared.outcome.End.{End}
+use Rattle.doip_segment.specs.declared.outcome.End.TheVariants as ends
+use Rattle.doip_segment.specs.declared.outcome.Step.{Step}
+use Rattle.doip_segment.specs.declared.outcome.Step.TheVariants as steps
 use Rattle.doip_segment.specs.declared.phase.Phase.{Phase}
 use Rattle.doip_segment.specs.declared.phase.Phase.TheVariants.{Due, Text, LineStart, JsonEnd, BytesStart, ChunkDue, Digits, Padding, Data, DataEnd, BytesEnd, MessageEnd, Whole, Stuck}
-use Rattle.doip_segment.specs.Segments.{Segment, segment}
+use Rattle.doip_segment.specs.Segments.{Segment, segment, most_segments}
+use Rattle.doip_segment.specs.Grammar.{line_feed, space, tab, carriage_return, hash_sign, at_sign, digit_zero, digit_nine, most_digits}
 
 -- what a byte is to the framing
 abbrev pub class_of : ℕ → Class
-class_of b = if b == 10 then LineFeed else if b == 32 || b == 9 || b == 13 then Blank else if b == 35 then Hash else if b == 64 then At else if nat_le 48 b && nat_le b 57 then Digit (b - 48) else Other
+class_of b =
+    if b == line_feed then LineFeed
+    else if b == space || b == tab || b == carriage_return then Blank
+    else if b == hash_sign then Hash
+    else if b == at_sign then At
+    else if nat_le digit_zero b && nat_le b digit_nine then Digit (b - digit_zero)
+    else Other
 
--- behind a `#` or an `@`: blanks, and then a line feed
+-- after a `#` or an `@`: blanks, and then a line feed
 abbrev pub marker : Phase → Class → Phase → Phase
 marker phase LineFeed after = after
 marker phase Blank after = phase
@@ -26,11 +37,12 @@ abbrev pub data_due : ℕ → Phase
 data_due zero = DataEnd
 data_due (suc n) = Data (suc n)
 
--- behind the digits of a chunk's length: another digit, a blank, or the line feed
+-- after the digits of a chunk's length: another digit, a blank, or the line feed
 abbrev pub after_digits : ℕ → ℕ → Class → Phase
 after_digits count value LineFeed = data_due value
 after_digits count value Blank = Padding value
-after_digits count value (Digit d) = if nat_lt count 10 then Digits (count + 1) (10 * value + d) else Stuck reasons.Length
+after_digits count value (Digit d) =
+    if nat_lt count most_digits then Digits (count + 1) (10 * value + d) else Stuck reasons.Length
 after_digits count value _ = Stuck reasons.Length
 
 -- where a byte leads
@@ -70,8 +82,8 @@ added Due Other b = b ∷ []
 added Text LineFeed b = []
 added Text _ b = b ∷ []
 added LineStart Hash b = []
-added LineStart LineFeed b = 10 ∷ []
-added LineStart _ b = 10 ∷ b ∷ []
+added LineStart LineFeed b = line_feed ∷ []
+added LineStart _ b = line_feed ∷ b ∷ []
 added (Data left) class b = b ∷ []
 added _ _ b = []
 
@@ -81,8 +93,8 @@ closed JsonEnd LineFeed = Some kinds.Json
 closed BytesEnd LineFeed = Some kinds.Bytes
 closed _ _ = None
 
--- What has been read of a message: the segments that are closed, the content of the one that isn't, the place in the grammar,
--- and how many bytes it took.
+-- What has been read of a message: the segments that are closed, the content of the one that isn't, the place in the
+-- grammar, and how many bytes it took.
 pub record Reading : Type 0 where
   pub segments : List Segment
   pub pending : List ℕ
@@ -93,7 +105,7 @@ pub record Reading : Type 0 where
 abbrev pub start : Reading
 start = record { segments = []; pending = []; phase = Due; count = 0 }
 
--- the segments and the pending content behind a byte
+-- the segments and the pending content after a byte
 abbrev pub kept : List Segment → List ℕ → Option Kind → List ℕ → List Segment × List ℕ
 kept segments pending None more = (segments, pending ++ more)
 kept segments pending (Some kind) more = (segments ++ segment kind pending ∷ [], [])
@@ -120,9 +132,13 @@ begins _ _ = false
 
 -- the limit that a byte breaks
 abbrev pub limit_fault : Limits → Reading → Class → Option Reason
-limit_fault limits r class = if nat_le limits.total r.count then Some reasons.TooLong else if passes_json limits.json r.phase class (length r.pending) then Some reasons.JsonTooLong else if begins r.phase class && nat_le 2048 (length r.segments) then Some reasons.TooMany else None
+limit_fault limits r class =
+    if nat_le limits.total r.count then Some reasons.TooLong
+    else if passes_json limits.json r.phase class (length r.pending) then Some reasons.JsonTooLong
+    else if begins r.phase class && nat_le most_segments (length r.segments) then Some reasons.TooMany
+    else None
 
--- nothing more is read behind a whole message or a fault
+-- nothing more is read after a whole message or a fault
 abbrev pub is_done : Phase → Bool
 is_done Whole = true
 is_done (Stuck reason) = true
@@ -144,7 +160,19 @@ run limits r (b ∷ bs) = run limits (advanced limits r b) bs
 
 -- the numbers of a phase are those of a length with at most ten digits
 abbrev pub IsInRange : Phase → Type 0
-IsInRange (Digits count value) = (count ≤ 10) × (value < 10 ^ count)
-IsInRange (Padding value) = value < 10 ^ 10
-IsInRange (Data left) = (0 < left) × (left < 10 ^ 10)
+IsInRange (Digits count value) = (count ≤ most_digits) × (value < 10 ^ count)
+IsInRange (Padding value) = value < 10 ^ most_digits
+IsInRange (Data left) = (0 < left) × (left < 10 ^ most_digits)
 IsInRange _ = Unit {0}
+
+-- what stands, as a result of feed
+abbrev pub outcome_of : Phase → ℕ → Step
+outcome_of Whole taken = steps.Message
+outcome_of (Stuck reason) taken = steps.Fault taken reason
+outcome_of _ taken = steps.More
+
+-- where the session ends if no byte more comes
+abbrev pub end_of : Phase → List Segment → ℕ → End
+end_of Whole segments taken = ends.Between
+end_of Due [] taken = ends.Between
+end_of _ segments taken = ends.Inside taken

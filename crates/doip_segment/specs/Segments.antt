@@ -8,6 +8,10 @@ pub record Segment : Type 0 where
   pub kind : Kind
   pub bytes : List ℕ
 
+-- the most segments of a message
+abbrev pub most_segments : ℕ
+most_segments = 2048
+
 -- the segment of this kind and content
 abbrev pub segment : Kind → List ℕ → Segment
 segment kind bytes = record { kind = kind; bytes = bytes }
@@ -16,7 +20,7 @@ segment kind bytes = record { kind = kind; bytes = bytes }
 abbrev pub segment_of : List Segment → ℕ → Segment
 segment_of segments i = slice_index_or segments i (segment kinds.Json [])
 
--- What a message holds: its segments. The rest only the decoder speaks of: the bytes of a segment that isn't closed yet,
+-- What a message holds: its segments. The rest only the decoder names: the bytes of a segment that isn't closed yet,
 -- how many bytes of the buffer are used, and how many bytes and segments fit without more memory.
 pub record Held : Type 0 where
   pub segments : List Segment

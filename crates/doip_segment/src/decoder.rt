@@ -1,27 +1,28 @@
 //! The decoder: it looks at each byte of a session once, and copies contents by slices.
 
-ghost use Rattle.std.specs.Prelude.{◌≡◌, ◌≢◌, ◌+◌, ◌-◌, ◌≤◌, ◌<◌, ◌^◌, ◌↔◌, ◌||◌, ℕ, List, min, [], ◌∷◌, ◌++◌, length, take, true, false, IsTrue, IsSome, IfOk, Some, None};
-ghost use Rattle.doip_segment.specs.Machine.{class_of, passes_json, begins, closed, added, kept, limit_fault, is_done, start, run, advanced};
-ghost use Rattle.doip_segment.specs.declared.outcome.Reason.{Reason};
-ghost use Rattle.doip_segment.specs.Decoding.{IsStanding, IsStuck, Took, Frames, ReadsMessage, WaitsForMore, EndsBetween, outcome_of, end_of};
+ghost use Rattle.std.specs.Prelude.{◌≡◌, ◌≢◌, ◌+◌, ◌≤◌, ◌<◌, ◌↔◌, ℕ, List, [], ◌∷◌, ◌++◌, length, take, false, IsTrue, IfOk};
+ghost use Rattle.doip_segment.specs.Machine.{added, closed, limit_fault, is_done, start, end_of};
+ghost use Rattle.doip_segment.specs.Framing.{most_total};
+ghost use Rattle.doip_segment.specs.Decoding.{IsStanding, EndsBetween, Shows, Took, Feeds, Uses, Reports};
+ghost use Rattle.doip_segment.specs.Advance.{Advances};
 
 use crate::class::{Class, classify};
 use crate::kind::Kind;
 use crate::message::Message;
 use crate::outcome::{End, Limits, Reason, Step};
-use crate::phase::{Phase, behind_data, next};
+use crate::phase::{Phase, next, phase_in_data};
 use memchr::memchr;
 use std::alloc::{AllocError, Global};
 use std::marker::Model;
 
-/// The most segments that a message has.
-const SEGMENTS: usize = 2048;
+/// The most segments that a message has (`most_segments` of the specs).
+const MOST_SEGMENTS: usize = 2048;
 
-/// Reads the messages of a session, from pieces of any length.
+/// Reads the messages of a session, however it is cut into pieces.
 #[derive(Debug, Drop)]
 pub struct Decoder {
     limits: Limits,
-    /// The closed segments of the message that is being read, and the content of the open one.
+    /// The segments read so far of a message, and the content of the one that isn't closed yet.
     message: Message,
     phase: Phase,
     /// How many bytes the message took so far.
@@ -31,19 +32,23 @@ pub struct Decoder {
 }
 
 impl Model for Decoder {
-    ghost use Rattle.doip_segment.specs.Decoding.{Decoding, Fits};
+    ghost use Rattle.doip_segment.specs.Decoding.{Decoding};
+    ghost use Rattle.doip_segment.specs.Advance.{Fits};
+    ghost use Rattle.doip_segment.specs.Machine.{outcome_of};
 
     ghost Value = { Decoding };
 
     ghost view = { λ d. record {
       limits = d.limits;
+      standing = outcome_of d.phase d.taken;
+      segments = d.message.segments;
+      taken = d.taken;
       reading = record {
         segments = d.message.segments;
         pending = d.message.pending;
         phase = d.phase;
         count = d.count;
       };
-      taken = d.taken;
     } };
 
     ghost invariant = { λ d. Fits d.limits d.message d.phase d.count };
@@ -94,13 +99,13 @@ impl Decoder {
     pub fn new(alloc: Global, limits: Limits) -> Result<Decoder, AllocError>
         requires json { 1 ≤ limits.json }
         requires order { limits.json ≤ limits.total }
-        requires total { limits.total ≤ 67108864 }
+        requires total { limits.total ≤ most_total }
         ensures limits { IfOk result (λ d. d.limits ≡ limits) }
-        ensures reading { IfOk result (λ d. d.reading ≡ start) }
+        ensures standing { IfOk result (λ d. d.standing ≡ Step.More) }
         ensures took { IfOk result (λ d. Took d []) }
         ensures taken { IfOk result (λ d. d.taken ≡ 0) }
     {
-        let message = Message::with_room(alloc, limits.total as usize, SEGMENTS)?;
+        let message = Message::with_room(alloc, limits.total as usize, MOST_SEGMENTS)?;
         Ok(Decoder {
             limits,
             message,
@@ -110,7 +115,7 @@ impl Decoder {
         })
     }
 
-    /// Whether a message is whole or a fault stands, so that no byte more is taken.
+    /// Whether a message or a fault stands, so that no byte more is taken.
     fn is_done(&self) -> bool
         ensures { result ≡ is_done self.now.reading.phase }
     {
@@ -135,20 +140,17 @@ impl Decoder {
             Some(Reason::TooLong)
         } else if long {
             Some(Reason::JsonTooLong)
-        } else if begins && self.message.count() >= SEGMENTS {
+        } else if begins && self.message.count() >= MOST_SEGMENTS {
             Some(Reason::TooMany)
         } else {
             None
         }
     }
 
-    /// Takes one byte. Neither a whole message nor a fault stands.
+    /// Takes one byte while neither a message nor a fault stands.
     fn take_byte(&mut self, byte: u8)
         requires { is_done self.old.reading.phase ≡ false }
-        ensures limits { self.new.limits ≡ self.old.limits }
-        ensures reading { self.new.reading ≡ advanced self.old.limits self.old.reading byte }
-        ensures count { self.new.reading.count ≡ self.old.reading.count + 1 }
-        ensures taken { self.new.taken ≡ min (self.old.taken + 1) (2 ^ 64 - 1) }
+        ensures { Advances 1 (byte ∷ []) self.old self.new }
     {
         let class = classify(byte);
         let broken = self.limit_broken(class);
@@ -171,10 +173,7 @@ impl Decoder {
         requires rest { 0 < length rest.now }
         ensures some { 0 < result }
         ensures within { result ≤ length rest.now }
-        ensures limits { self.new.limits ≡ self.old.limits }
-        ensures reading { self.new.reading ≡ run self.old.limits self.old.reading (take result rest.now) }
-        ensures count { self.new.reading.count ≡ self.old.reading.count + result }
-        ensures taken { self.new.taken ≡ min (self.old.taken + result) (2 ^ 64 - 1) }
+        ensures advances { Advances result rest.now self.old self.new }
     {
         let text = (self.limits.json as usize + 1).saturating_sub(self.message.pending());
         let total = self.limits.total.saturating_sub(self.count) as usize;
@@ -205,10 +204,7 @@ impl Decoder {
         requires rest { 0 < length rest.now }
         ensures some { 0 < result }
         ensures within { result ≤ length rest.now }
-        ensures limits { self.new.limits ≡ self.old.limits }
-        ensures reading { self.new.reading ≡ run self.old.limits self.old.reading (take result rest.now) }
-        ensures count { self.new.reading.count ≡ self.old.reading.count + result }
-        ensures taken { self.new.taken ≡ min (self.old.taken + result) (2 ^ 64 - 1) }
+        ensures advances { Advances result rest.now self.old self.new }
     {
         let total = self.limits.total.saturating_sub(self.count) as usize;
         let window = rest.len().min(left as usize).min(total);
@@ -217,22 +213,19 @@ impl Decoder {
             return 1;
         }
         self.message.append(&rest[..window]);
-        self.phase = behind_data(left - window as u64);
+        self.phase = phase_in_data(left - window as u64);
         self.count += window as u32;
         self.taken = self.taken.saturating_add(window as u64);
         window
     }
 
-    /// Takes some of the bytes, by slices where contents stand. Neither a whole message nor a fault stands.
+    /// Takes some of the bytes while neither a message nor a fault stands, by slices if they are content.
     fn take_some(&mut self, rest: &[u8]) -> usize
         requires live { is_done self.old.reading.phase ≡ false }
         requires rest { 0 < length rest.now }
         ensures some { 0 < result }
         ensures within { result ≤ length rest.now }
-        ensures limits { self.new.limits ≡ self.old.limits }
-        ensures reading { self.new.reading ≡ run self.old.limits self.old.reading (take result rest.now) }
-        ensures count { self.new.reading.count ≡ self.old.reading.count + result }
-        ensures taken { self.new.taken ≡ min (self.old.taken + result) (2 ^ 64 - 1) }
+        ensures advances { Advances result rest.now self.old self.new }
     {
         match self.phase {
             Phase::Text => self.take_text(rest),
@@ -244,9 +237,10 @@ impl Decoder {
         }
     }
 
-    /// What stands.
-    fn outcome(&self) -> Step
-        ensures { result ≡ outcome_of self.now.reading.phase self.now.taken }
+    /// What `feed` returns for no bytes.
+    fn standing(&self) -> Step
+        ensures standing { result ≡ self.now.standing }
+        ensures shows { Shows self.now }
     {
         match self.phase {
             Phase::Whole => Step::Message,
@@ -258,15 +252,12 @@ impl Decoder {
         }
     }
 
-    /// Takes bytes as long as nothing is done, and tells how many.
+    /// Takes bytes until a message or a fault stands, and returns how many.
     fn take_all(&mut self, piece: &[u8]) -> usize
         ensures within { result ≤ length piece.now }
         ensures all { is_done self.new.reading.phase ≡ false → result ≡ length piece.now }
-        ensures done { is_done self.old.reading.phase ≡ true → (result ≡ 0) × (self.new ≡ self.old) }
-        ensures limits { self.new.limits ≡ self.old.limits }
-        ensures reading { self.new.reading ≡ run self.old.limits self.old.reading (take result piece.now) }
-        ensures count { self.new.reading.count ≡ self.old.reading.count + result }
-        ensures taken { self.new.taken ≡ min (self.old.taken + result) (2 ^ 64 - 1) }
+        ensures unchanged { self.old.standing ≢ Step.More → (result ≡ 0) × (self.new ≡ self.old) }
+        ensures advances { Advances result piece.now self.old self.new }
     {
         let _ = &self.taken;
         let mut used = 0;
@@ -276,35 +267,26 @@ impl Decoder {
         used
     }
 
-    /// Takes bytes up to the end of the first whole message, or up to and with the byte at a fault's place, or the whole
-    /// piece, and tells how many it took. While a message stands it answers `(0, Message)`, and after a fault `(0, Fault)`
-    /// with that fault. It takes no memory, and looks at each byte once.
+    /// Consumes bytes up to the end of the first whole message, or up to and with the byte at a fault's place, or the
+    /// whole piece, and returns how many. It takes no memory, and looks at each byte once.
     pub fn feed(&mut self, piece: &[u8]) -> (usize, Step)
-        ensures within { result.0 ≤ length piece.now }
-        // What the bytes taken since the last message are, and this piece behind them.
+        ensures used { Uses piece.now result.0 result.1 self.new }
+        ensures outcome { result.1 ≡ self.new.standing }
+
+        // What the bytes taken since the last message are, and this piece after them.
+        ensures feeds { Feeds (take result.0 piece.now) self.old self.new }
         ensures framing { (came : List ℕ) → Took self.old came
-            → Frames self.old.limits came piece.now result.0 result.1 self.new.reading.segments }
-        ensures took { (came : List ℕ) → Took self.old came → Took self.new (came ++ take result.0 piece.now) }
-        // A message within the limits is read, in whatever pieces it comes.
-        ensures reads { (came : List ℕ) → Took self.old came
-            → ReadsMessage self.old.limits came piece.now result.0 result.1 self.new.reading.segments }
-        ensures waits { (came : List ℕ) → Took self.old came
-            → WaitsForMore self.old.limits came piece.now result.0 result.1 }
+            → Reports self.old.limits came piece.now result.0 result.1 self.new }
 
-        ensures outcome { result.1 ≡ outcome_of self.new.reading.phase self.new.taken }
-        ensures stood { IsStanding self.old → (result ≡ (0, Step.Message)) × (self.new ≡ self.old) }
-        ensures stuck { (reason : Reason) → IsStuck self.old reason
-            → (result ≡ (0, Step.Fault self.old.taken reason)) × (self.new ≡ self.old) }
-        ensures more { result.1 ≡ Step.More → result.0 ≡ length piece.now }
-
-        ensures limits { self.new.limits ≡ self.old.limits }
-        ensures taken { self.new.taken ≡ min (self.old.taken + result.0) (2 ^ 64 - 1) }
+        // While a message or a fault stands, nothing is consumed and the same is returned.
+        ensures unchanged { self.old.standing ≢ Step.More
+            → (result ≡ (0, self.old.standing)) × (self.new ≡ self.old) }
     {
         let used = self.take_all(piece);
-        (used, self.outcome())
+        (used, self.standing())
     }
 
-    /// How many bytes were taken since the decoder was made or last restarted, and 2^64 - 1 where there were more.
+    /// How many bytes were taken since the decoder was made or last restarted, and 2^64 - 1 if there were more.
     pub fn taken(&self) -> u64
         ensures { result ≡ self.now.taken }
     {
@@ -315,20 +297,21 @@ impl Decoder {
     pub fn stands(&self) -> bool
         ensures { IsTrue result ↔ IsStanding self.now }
     {
-        matches!(self.phase, Phase::Whole)
+        matches!(self.standing(), Step::Message)
     }
 
     /// The message that stands.
     pub fn message(&self) -> &Message
         requires { IsStanding self.now }
-        ensures { result.now.segments ≡ self.now.reading.segments }
+        ensures { result.now.segments ≡ self.now.segments }
     {
         &self.message
     }
 
     fn begin(&mut self)
         ensures limits { self.new.limits ≡ self.old.limits }
-        ensures reading { self.new.reading ≡ start }
+        ensures standing { self.new.standing ≡ Step.More }
+        ensures took { Took self.new [] }
         ensures taken { self.new.taken ≡ self.old.taken }
     {
         self.message.clear();
@@ -336,11 +319,11 @@ impl Decoder {
         self.count = 0;
     }
 
-    /// Drops the message that stands, if one does. Where none stands nothing changes.
+    /// Drops the message that stands, if one does, and changes nothing else.
     pub fn clear(&mut self)
         ensures limits { self.new.limits ≡ self.old.limits }
-        ensures stood { IsStanding self.old → (self.new.reading ≡ start) × Took self.new [] }
-        ensures other { ¬ IsStanding self.old → self.new ≡ self.old }
+        ensures dropped { IsStanding self.old → (self.new.standing ≡ Step.More) × Took self.new [] }
+        ensures unchanged { ¬ IsStanding self.old → self.new ≡ self.old }
         ensures taken { self.new.taken ≡ self.old.taken }
     {
         if self.stands() {
@@ -351,7 +334,7 @@ impl Decoder {
     /// Begins a new session: drops a message, a part of one, a fault and the place.
     pub fn restart(&mut self)
         ensures limits { self.new.limits ≡ self.old.limits }
-        ensures reading { self.new.reading ≡ start }
+        ensures standing { self.new.standing ≡ Step.More }
         ensures took { Took self.new [] }
         ensures taken { self.new.taken ≡ 0 }
     {
@@ -359,11 +342,11 @@ impl Decoder {
         self.taken = 0;
     }
 
-    /// Where the session stands if no byte more comes: between messages where one stands, or where no fault does and only
-    /// white bytes came since the last one. Else inside, with the fault's place or the number of bytes taken.
+    /// How the session ends if no byte more comes: between messages if one stands, or if no fault does and only white
+    /// bytes came since the last one. Else inside, with the number of bytes taken, which is the place of a fault.
     pub fn finish(&self) -> End
         ensures between { (came : List ℕ) → Took self.now came → (result ≡ End.Between) ↔ EndsBetween self.now came }
-        ensures ending { result ≡ end_of self.now.reading.phase self.now.reading.segments self.now.taken }
+        ensures inside { (place : ℕ) → result ≡ End.Inside place → place ≡ self.now.taken }
     {
         self.ending()
     }

@@ -2,6 +2,7 @@
 
 ghost use Rattle.std.specs.Prelude.{◌≡◌, ◌≢◌, ◌<◌, ◌^◌, ◌↔◌, [], ◌∷◌, ◌++◌, length, IsTrue, OnOk, IfOk};
 ghost use Rattle.std.specs.Fmt.{decimal};
+ghost use Rattle.doip_segment.specs.Grammar.{line_feed};
 ghost use Rattle.doip_segment.specs.Canonical.{IsPlain, AreEncodable, chunks_text, content_text, canonical};
 
 use crate::kind::Kind;
@@ -21,9 +22,10 @@ pub fn is_plain(bytes: &[u8]) -> bool
     }
 }
 
+/// Writes a chunk with these bytes.
 fn put_chunk(alloc: Global, out: &mut Vec<u8>, bytes: &[u8]) -> Result<(), AllocError>
     ensures { OnOk result (out.new.items
-        ≡ out.old.items ++ (decimal (length bytes.now) ++ 10 ∷ [] ++ bytes.now ++ 10 ∷ [])) }
+        ≡ out.old.items ++ (decimal (length bytes.now) ++ line_feed ∷ [] ++ bytes.now ++ line_feed ∷ [])) }
 {
     let count = bytes.len();
     let digits = format!(in alloc; "{count}")?;
@@ -33,7 +35,7 @@ fn put_chunk(alloc: Global, out: &mut Vec<u8>, bytes: &[u8]) -> Result<(), Alloc
     out.extend_from_slice(b"\n")
 }
 
-/// One chunk with all of the bytes, or none where there are none.
+/// Writes one chunk with all of the bytes, or none if there are none.
 fn put_chunks(alloc: Global, out: &mut Vec<u8>, bytes: &[u8]) -> Result<(), AllocError>
     ensures { OnOk result (out.new.items ≡ out.old.items ++ chunks_text bytes.now) }
 {
@@ -43,6 +45,7 @@ fn put_chunks(alloc: Global, out: &mut Vec<u8>, bytes: &[u8]) -> Result<(), Allo
     }
 }
 
+/// Writes a segment.
 fn put_segment(alloc: Global, out: &mut Vec<u8>, kind: Kind, bytes: &[u8]) -> Result<(), AllocError>
     ensures { OnOk result (out.new.items ≡ out.old.items ++ content_text kind bytes.now) }
 {
@@ -59,9 +62,9 @@ fn put_segment(alloc: Global, out: &mut Vec<u8>, kind: Kind, bytes: &[u8]) -> Re
     }
 }
 
-/// The canonical spelling of the message: no white or blank byte outside contents, no leading zero, one chunk for a byte
-/// segment that has bytes, and no chunk for one that has none. Each JSON segment is plain, there are at most 2,048 segments,
-/// and each byte segment has fewer than 10^10 bytes.
+/// The canonical spelling of the message: no white or blank byte outside contents, no leading zero, one chunk for a
+/// byte segment that has bytes, and no chunk for one that has none. Each JSON segment is plain, there are at most 2,048
+/// segments, and each byte segment has fewer than 10^10 bytes.
 pub fn encode(alloc: Global, message: &Message) -> Result<Bytes, AllocError>
     requires { AreEncodable message.now.segments }
     ensures { IfOk result (λ bytes. bytes ≡ canonical message.now.segments) }

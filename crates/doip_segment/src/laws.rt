@@ -8,12 +8,13 @@ ghost use Rattle.doip_segment.specs.Grammar.{IsSpelling};
 ghost use Rattle.doip_segment.specs.Canonical.{AreEncodable, canonical};
 ghost use Rattle.doip_segment.specs.Framing.{IsWithin, Framed, Broken};
 ghost use Rattle.doip_segment.specs.declared.outcome.Step.TheVariants.{More};
+ghost use Rattle.doip_segment.specs.Decoding.{Decoding, Took, Frames};
 ghost use Rattle.doip_segment.specs.Session.{Call, IsSession, bytes_of, messages_of, rest_of, Ends};
 
-/// No spelling is a proper front of another, and each is a spelling of one message.
+/// No spelling is a proper prefix of another, and each is a spelling of one message.
 pub fn no_spelling_begins_another()
-    ensures { (bytes behind : List ℕ) (message other : List Segment)
-        → IsSpelling bytes message → IsSpelling (bytes ++ behind) other → (behind ≡ []) × (message ≡ other) }
+    ensures { (bytes after : List ℕ) (message other : List Segment)
+        → IsSpelling bytes message → IsSpelling (bytes ++ after) other → (after ≡ []) × (message ≡ other) }
 {}
 
 /// Each list of bytes is framed in exactly one way.
@@ -37,23 +38,29 @@ pub fn canonical_is_a_spelling()
     ensures { (message : List Segment) → AreEncodable message → IsSpelling (canonical message) message }
 {}
 
-/// What the encoder wrote is read again, with whatever comes behind it: a stream that begins with the canonical spelling of
-/// a message within the limits has that message first, and then those of the bytes behind it.
+/// What the encoder wrote is read again, with whatever comes after it: a stream that begins with the canonical spelling
+/// of a message within the limits has that message first, and then those of the bytes after it.
 pub fn what_is_written_is_read()
-    ensures { (limits : Limits) (message : List Segment) (behind : List ℕ) (messages : List (List Segment)) (rest : List ℕ)
-        → AreEncodable message → IsWithin limits (canonical message) message
-        → Framed limits (canonical message ++ behind) messages rest
-        → (later : List (List Segment)) × (messages ≡ message ∷ later) × Framed limits behind later rest }
+    ensures { (limits : Limits) (message : List Segment) (after : List ℕ)
+        → (messages : List (List Segment)) (rest : List ℕ) → AreEncodable message
+        → IsWithin limits (canonical message) message
+        → Framed limits (canonical message ++ after) messages rest
+        → (later : List (List Segment)) × (messages ≡ message ∷ later) × Framed limits after later rest }
+{}
+
+/// What stands in a decoder is what the bytes since its last message are.
+pub fn what_stands_is_what_came()
+    ensures { (d : Decoding) (came : List ℕ) → Took d came → Frames d.limits came [] 0 d.standing d }
 {}
 
 /// However a session is cut into pieces, its messages and its rest are those of the bytes taken, joined. It ends at a
-/// fault exactly where the rest breaks, for that reason.
+/// fault exactly when the rest breaks, at that place of the session's bytes and for that reason.
 pub fn pieces_do_not_matter()
-    ensures framed { (limits : Limits) (calls : List Call) → IsSession limits [] calls
+    ensures framed { (limits : Limits) (calls : List Call) → IsSession limits [] 0 calls
         → Framed limits (bytes_of calls) (messages_of calls) (rest_of [] calls) }
-    ensures ends { (limits : Limits) (calls : List Call) → IsSession limits [] calls
-        → Ends limits (rest_of [] calls) More calls }
+    ensures ends { (limits : Limits) (calls : List Call) → IsSession limits [] 0 calls
+        → Ends limits (bytes_of calls) (rest_of [] calls) More calls }
     ensures same { (limits : Limits) (calls others : List Call)
-        → IsSession limits [] calls → IsSession limits [] others → bytes_of calls ≡ bytes_of others
+        → IsSession limits [] 0 calls → IsSession limits [] 0 others → bytes_of calls ≡ bytes_of others
         → (messages_of calls ≡ messages_of others) × (rest_of [] calls ≡ rest_of [] others) }
 {}

@@ -56,11 +56,7 @@ impl Message {
     }
 
     /// A message without segments, with room for this many bytes and segments.
-    pub(crate) fn with_room(
-        alloc: Global,
-        bytes: usize,
-        segments: usize,
-    ) -> Result<Message, AllocError>
+    pub fn with_room(alloc: Global, bytes: usize, segments: usize) -> Result<Message, AllocError>
         ensures segments { IfOk result (λ m. m.segments ≡ []) }
         ensures pending { IfOk result (λ m. m.pending ≡ []) }
         ensures used { IfOk result (λ m. m.used ≡ 0) }
@@ -123,7 +119,7 @@ impl Message {
         self.start = end;
     }
 
-    /// Drops all content. The memory stays.
+    /// Drops all content and keeps the memory.
     pub(crate) fn clear(&mut self)
         ensures segments { self.new.segments ≡ [] }
         ensures pending { self.new.pending ≡ [] }
@@ -156,6 +152,15 @@ impl Message {
         ensures { result ≡ (segment_of self.now.segments i).kind }
     {
         self.extents[i].kind
+    }
+
+    /// The kind and the content of segment `i`, counted from 0.
+    pub fn segment(&self, i: usize) -> (Kind, &[u8])
+        requires { i < length self.now.segments }
+        ensures kind { result.0 ≡ (segment_of self.now.segments i).kind }
+        ensures bytes { result.1.now ≡ (segment_of self.now.segments i).bytes }
+    {
+        (self.kind(i), self.bytes(i))
     }
 
     /// The content of segment `i`, counted from 0.

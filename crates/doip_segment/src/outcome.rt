@@ -1,6 +1,6 @@
-//! Limits of a message, and what the decoder answers.
+//! Limits of a message, and what the decoder returns.
 
-/// What a message may take.
+/// How long a message may be.
 #[derive(Clone, Copy, Debug, PartialEq, Eq)]
 pub struct Limits {
     /// The most bytes that a JSON segment has.
@@ -12,9 +12,9 @@ pub struct Limits {
 /// Why bytes frame no message.
 #[derive(Clone, Copy, Debug, PartialEq, Eq)]
 pub enum Reason {
-    /// Behind a `#` or an `@` stands something else than blanks and a line feed.
+    /// Unexpected byte after `#` or `@`, where blanks and a line feed are due.
     Marker,
-    /// A chunk's length is due, or isn't one.
+    /// Unexpected byte where a chunk's length or the end of a byte segment is due.
     Length,
     /// A chunk's data isn't followed by a line feed.
     ChunkEnd,
@@ -31,7 +31,7 @@ pub enum Reason {
 pub enum Step {
     /// All of it was taken, and the message isn't whole yet.
     More,
-    /// A message is whole.
+    /// A message is whole, and stands in the decoder.
     Message,
     /// The last byte taken is a framing fault.
     Fault {

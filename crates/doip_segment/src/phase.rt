@@ -1,4 +1,4 @@
-//! Where in the grammar the decoder stands, and where a byte leads from there.
+//! Where in the grammar the decoder is, and where a byte leads from there.
 
 ghost use Rattle.std.specs.Prelude.{◌≡◌, ◌<◌, ◌^◌};
 ghost use Rattle.doip_segment.specs.Machine.{marker, data_due, after_digits, next_phase, IsInRange};
@@ -6,7 +6,7 @@ ghost use Rattle.doip_segment.specs.Machine.{marker, data_due, after_digits, nex
 use crate::class::Class;
 use crate::outcome::Reason;
 
-/// What stands before the next byte of a message.
+/// What comes before the next byte of a message.
 #[derive(Clone, Copy, Debug, PartialEq, Eq)]
 pub(crate) enum Phase {
     /// A segment or the end of the message is due.
@@ -39,14 +39,17 @@ pub(crate) enum Phase {
     Stuck { reason: Reason },
 }
 
+/// The most digits of a chunk's length (`most_digits` of the specs).
+const MOST_DIGITS: u8 = 10;
+
 const fn stuck(reason: Reason) -> Phase
     ensures { result ≡ Phase.Stuck reason }
 {
     Phase::Stuck { reason }
 }
 
-/// Behind a `#` or an `@`: blanks stay there, and a line feed leads on.
-fn behind_marker(phase: Phase, class: Class, after: Phase) -> Phase
+/// After a `#` or an `@`: blanks stay there, and a line feed leads on.
+fn phase_after_marker(phase: Phase, class: Class, after: Phase) -> Phase
     ensures { result ≡ marker phase class after }
 {
     match class {
@@ -56,7 +59,8 @@ fn behind_marker(phase: Phase, class: Class, after: Phase) -> Phase
     }
 }
 
-pub(crate) fn behind_data(left: u64) -> Phase
+/// So many bytes of a chunk's data are due.
+pub(crate) fn phase_in_data(left: u64) -> Phase
     ensures { result ≡ data_due left }
 {
     if left == 0 {
@@ -66,14 +70,15 @@ pub(crate) fn behind_data(left: u64) -> Phase
     }
 }
 
-fn behind_digits(count: u8, value: u64, class: Class) -> Phase
+/// After the digits of a chunk's length: another digit, a blank, or the line feed.
+fn phase_after_digits(count: u8, value: u64, class: Class) -> Phase
     requires { IsInRange (Phase.Digits count value) }
     ensures { result ≡ after_digits count value class }
 {
     match class {
-        Class::LineFeed => behind_data(value),
+        Class::LineFeed => phase_in_data(value),
         Class::Blank => Phase::Padding { value },
-        Class::Digit(digit) if count < 10 => Phase::Digits {
+        Class::Digit(digit) if count < MOST_DIGITS => Phase::Digits {
             count: count + 1,
             value: 10 * value + u64::from(digit),
         },
@@ -102,9 +107,9 @@ pub(crate) fn next(phase: Phase, class: Class) -> Phase
             Class::Hash => Phase::JsonEnd,
             _ => Phase::Text,
         },
-        Phase::JsonEnd | Phase::BytesEnd => behind_marker(phase, class, Phase::Due),
-        Phase::BytesStart => behind_marker(phase, class, Phase::ChunkDue),
-        Phase::MessageEnd => behind_marker(phase, class, Phase::Whole),
+        Phase::JsonEnd | Phase::BytesEnd => phase_after_marker(phase, class, Phase::Due),
+        Phase::BytesStart => phase_after_marker(phase, class, Phase::ChunkDue),
+        Phase::MessageEnd => phase_after_marker(phase, class, Phase::Whole),
         Phase::ChunkDue => match class {
             Class::Digit(digit) => Phase::Digits {
                 count: 1,
@@ -113,13 +118,13 @@ pub(crate) fn next(phase: Phase, class: Class) -> Phase
             Class::Hash => Phase::BytesEnd,
             _ => stuck(Reason::Length),
         },
-        Phase::Digits { count, value } => behind_digits(count, value, class),
+        Phase::Digits { count, value } => phase_after_digits(count, value, class),
         Phase::Padding { value } => match class {
-            Class::LineFeed => behind_data(value),
+            Class::LineFeed => phase_in_data(value),
             Class::Blank => phase,
             _ => stuck(Reason::Length),
         },
-        Phase::Data { left } => behind_data(left - 1),
+        Phase::Data { left } => phase_in_data(left - 1),
         Phase::DataEnd => match class {
             Class::LineFeed => Phase::ChunkDue,
             _ => stuck(Reason::ChunkEnd),

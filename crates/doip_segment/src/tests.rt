@@ -1,6 +1,9 @@
-ghost use Rattle.std.specs.Prelude.{◌≤◌};
+ghost use Rattle.std.specs.Prelude.{◌≤◌, length};
+ghost use Rattle.doip_segment.specs.Framing.{most_total};
+ghost use Rattle.doip_segment.specs.Canonical.{CanBeWritten};
 
 use super::*;
+use doip_json::Bytes;
 use std::alloc::{AllocError, Global};
 use std::process::Abort;
 use std::test::Fail;
@@ -23,31 +26,55 @@ const SHORT: Limits = Limits {
 /// Byte json + 2 of a JSON segment that begins a message is its byte total + 1.
 const EQUAL: Limits = Limits { json: 8, total: 9 };
 
-/// Some bytes, how many of them are taken, and the answer.
+/// Some bytes, how many of them are consumed, and the result.
 type Row = (&'static [u8], usize, Step);
 
 const fn at(place: u64, reason: Reason) -> Step {
     Step::Fault { place, reason }
 }
 
-fn fed(alloc: Global, limits: Limits, bytes: &[u8]) -> Result<(usize, Step), AllocError>
-    requires json { 1 ≤ limits.json }
-    requires order { limits.json ≤ limits.total }
-    requires total { limits.total ≤ 67108864 }
+/// What a restarted decoder returns for the bytes in two pieces.
+fn fed(decoder: &mut Decoder, bytes: &[u8], cut: usize) -> (usize, Step)
+    requires { cut ≤ length bytes.now }
 {
-    let mut decoder = Decoder::new(alloc, limits)?;
-    Ok(decoder.feed(bytes))
+    decoder.restart();
+    let (first, step) = decoder.feed(&bytes[..cut]);
+    match step {
+        Step::More => {
+            let (more, step) = decoder.feed(&bytes[cut..]);
+            (first.saturating_add(more), step)
+        }
+        _ => (first, step),
+    }
 }
 
+/// Tries each row at each cut into two pieces, and in pieces of one byte.
 fn holds(rt: &impl Abort, alloc: Global, limits: Limits, rows: &[Row]) -> Result<(), AllocError>
     requires json { 1 ≤ limits.json }
     requires order { limits.json ≤ limits.total }
-    requires total { limits.total ≤ 67108864 }
+    requires total { limits.total ≤ most_total }
 {
+    let mut decoder = Decoder::new(alloc, limits)?;
     for row in rows {
-        assert_eq!(rt; fed(alloc, limits, row.0)?, (row.1, row.2));
+        for cut in 0..=row.0.len() {
+            assert_eq!(rt; fed(&mut decoder, row.0, cut), (row.1, row.2));
+        }
+        assert_eq!(rt; fed_by_bytes(&mut decoder, row.0), (row.1, row.2));
     }
     Ok(())
+}
+
+/// What a restarted decoder returns for the bytes in pieces of one byte.
+fn fed_by_bytes(decoder: &mut Decoder, bytes: &[u8]) -> (usize, Step) {
+    decoder.restart();
+    let mut used: usize = 0;
+    let mut step = Step::More;
+    for byte in bytes {
+        let (more, next) = decoder.feed(&[*byte]);
+        used = used.saturating_add(more);
+        step = next;
+    }
+    (used, step)
 }
 
 #[test]
@@ -175,7 +202,7 @@ fn a_byte_segment_is_its_data_joined(rt: HostRuntime) -> Result<(), Fail> {
 }
 
 #[test]
-fn a_session_goes_on_behind_its_messages(rt: HostRuntime) -> Result<(), Fail> {
+fn a_session_goes_on_after_its_messages(rt: HostRuntime) -> Result<(), Fail> {
     let mut decoder = Decoder::new(rt.alloc(), AMPLE)?;
     assert_eq!(rt; decoder.finish(), End::Between);
     assert_eq!(rt; decoder.feed(b"1\n#\n#\n#x"), (6, Step::Message));
@@ -194,23 +221,52 @@ fn a_session_goes_on_behind_its_messages(rt: HostRuntime) -> Result<(), Fail> {
     Ok(())
 }
 
+/// The text of a message of one segment.
+fn encoded(alloc: Global, kind: Kind, bytes: &[u8]) -> Result<Bytes, AllocError>
+    requires { CanBeWritten kind bytes.now }
+{
+    let mut message = Message::with_room(alloc, bytes.len(), 1)?;
+    message.push(kind, bytes)?;
+    encode(alloc, &message)
+}
+
+#[test]
+fn each_kind_of_segment_is_encoded(rt: HostRuntime) -> Result<(), Fail> {
+    let none = encode(rt.alloc(), &Message::empty(rt.alloc()))?;
+    assert_eq!(rt; none.get(), b"#\n".as_slice());
+    assert!(rt; is_plain(b"{\"a\":1}"));
+    let json = encoded(rt.alloc(), Kind::Json, b"{\"a\":1}")?;
+    assert_eq!(rt; json.get(), b"{\"a\":1}\n#\n#\n".as_slice());
+    let bytes = encoded(rt.alloc(), Kind::Bytes, b"0123456789")?;
+    assert_eq!(rt; bytes.get(), b"@\n10\n0123456789\n#\n#\n".as_slice());
+    let empty = encoded(rt.alloc(), Kind::Bytes, b"")?;
+    assert_eq!(rt; empty.get(), b"@\n#\n#\n".as_slice());
+    Ok(())
+}
+
 /// The spelling that is made of the segments, and what a decoder gives of it, one byte at a time.
 #[test]
 fn what_is_encoded_is_read_again(rt: HostRuntime) -> Result<(), Fail> {
     let mut message = Message::empty(rt.alloc());
+    assert!(rt; is_plain(b"[1]"));
+    message.push(Kind::Json, b"[1]")?;
     message.push(Kind::Bytes, b"a\n#\nb")?;
     message.push(Kind::Bytes, b"")?;
     let spelling = encode(rt.alloc(), &message)?;
-    assert_eq!(rt; spelling.get(), b"@\n5\na\n#\nb\n#\n@\n#\n#\n".as_slice());
+    assert_eq!(rt;
+        spelling.get(),
+        b"[1]\n#\n@\n5\na\n#\nb\n#\n@\n#\n#\n".as_slice()
+    );
     let mut decoder = Decoder::new(rt.alloc(), SMALL)?;
     for byte in spelling.get() {
         decoder.feed(&[*byte]);
     }
     assert!(rt; decoder.stands());
     let read = decoder.message();
-    assert_eq!(rt; read.count(), 2);
-    assert_eq!(rt; read.bytes(0), b"a\n#\nb".as_slice());
-    assert_eq!(rt; read.bytes(1), b"".as_slice());
+    assert_eq!(rt; read.count(), 3);
+    assert_eq!(rt; read.segment(0), (Kind::Json, b"[1]".as_slice()));
+    assert_eq!(rt; read.segment(1), (Kind::Bytes, b"a\n#\nb".as_slice()));
+    assert_eq!(rt; read.segment(2), (Kind::Bytes, b"".as_slice()));
     Ok(())
 }
 

@@ -4,4 +4,4 @@ use Rattle.doip_segment.specs.Canonical.{canonical}
 use Rattle.doip_segment.proofs.laws.what_is_written_is_read.Goals as goal
 
 pub returns : goal.returns
-returns c = λ limits message behind messages rest can within framed. framed_first limits (canonical message) behind message messages rest (record { spelling = canonical_spelling message can; within = within }) framed
+returns c = λ limits message after messages rest can within framed. framed_first limits (canonical message) after message messages rest (record { spelling = canonical_spelling message can; within = within }) framed

@@ -1,4 +1,4 @@
--- What the decoder answers to bytes that are known to be a message, or a part of one, and at a session's end.
+-- What the decoder returns for bytes that are known to be a message, or a part of one, and at a session's end.
 use Rattle.std.proofs.Common.{◌≡◌, ℕ, ◌+◌, ◌≤◌, ◌⊎◌, inl, inr, List, [], ◌∷◌, ◌++◌, length, map, take, drop, true, false, refl, sym, ap, ◌∙◌, subst, arith, append_assoc, length-append}
 use Rattle.std.specs.List.{flat_map, AllByRecursion}
 use Rattle.std.proofs.lemmas.List.{append-nil, take-append-drop, length-take-le, length-drop}
@@ -11,15 +11,15 @@ use Rattle.doip_segment.specs.declared.phase.Phase.TheVariants.{Due, Text, LineS
 use Rattle.doip_segment.specs.Segments.{Segment}
 use Rattle.doip_segment.specs.Grammar.{IsWhite, Part, part_bytes, segment_of_part}
 use Rattle.doip_segment.specs.Framing.{Spelt}
-use Rattle.doip_segment.specs.Machine.{run, is_done, Reading, start}
+use Rattle.doip_segment.specs.Machine.{run, is_done, Reading, start, outcome_of, end_of}
 use Rattle.doip_segment.specs.declared.outcome.End.TheVariants as ends
-use Rattle.doip_segment.specs.Decoding.{Decoding, Took, EndsBetween, outcome_of, end_of}
+use Rattle.doip_segment.specs.Decoding.{Decoding, Took, EndsBetween, IsPlaced}
 use Rattle.doip_segment.proofs.WalkLemmas.{Core, core, white_walk}
 use Rattle.doip_segment.proofs.TellLemmas.{told_at}
 use Rattle.doip_segment.proofs.CleanLemmas.{go, core_go, reach, clean_live}
-use Rattle.doip_segment.proofs.SpeltLemmas.{spelt_clean, clean_run, spelt_run, run_behind}
-use Rattle.doip_segment.proofs.LawLemmas.{two_fronts}
-use Rattle.doip_segment.proofs.CleanLemmas.{clean_front}
+use Rattle.doip_segment.proofs.SpeltLemmas.{spelt_clean, clean_run, spelt_run, run_after}
+use Rattle.doip_segment.proofs.LawLemmas.{two_prefixes}
+use Rattle.doip_segment.proofs.CleanLemmas.{clean_prefix}
 
 -- the bytes that were taken, and the rest of the piece
 taken_rest : (came piece : List ℕ) (used : ℕ) → (came ++ take used piece) ++ drop used piece ≡ came ++ piece
@@ -29,8 +29,8 @@ taken_rest came piece used = append_assoc came (take used piece) (drop used piec
 pub inside_live : (limits : Limits) (bytes : List ℕ) (b : ℕ) (more : List ℕ) (message : List Segment) → Spelt limits (bytes ++ b ∷ more) message → is_done (run limits start bytes).phase ≡ false
 inside_live limits bytes b more message spelt =
     let clean = spelt_clean limits (bytes ++ b ∷ more) message spelt in
-    let front = clean_front limits start bytes (b ∷ more) clean in
-    ap (λ (r : Reading). is_done r.phase) (clean_run limits start bytes front) ∙ clean_live limits start bytes b more clean
+    let prefix = clean_prefix limits start bytes (b ∷ more) clean in
+    ap (λ (r : Reading). is_done r.phase) (clean_run limits start bytes prefix) ∙ clean_live limits start bytes b more clean
 
 live_more : (p : Phase) (taken : ℕ) → is_done p ≡ false → outcome_of p taken ≡ steps.More
 live_more Whole taken live = absurd (let h : true ≡ false = live in cc)
@@ -53,23 +53,23 @@ rest_live limits bytes [] b more message spelt = inside_live limits bytes b more
 rest_live limits bytes (c ∷ rest) b more message spelt = inside_live limits bytes c (rest ++ b ∷ more) message spelt
 
 -- a part of a spelling needs more
-pub part_answers : (limits : Limits) (r : Reading) (came piece : List ℕ) (used taken b : ℕ) (more : List ℕ) (message : List Segment) (step : Step) → r ≡ run limits start (came ++ take used piece) → (is_done r.phase ≡ false → used ≡ length piece) → step ≡ outcome_of r.phase taken → Spelt limits (came ++ piece ++ b ∷ more) message → (used ≡ length piece) × (step ≡ steps.More)
-part_answers limits r came piece used taken b more message step is all at spelt =
+pub part_returns : (limits : Limits) (r : Reading) (came piece : List ℕ) (used taken b : ℕ) (more : List ℕ) (message : List Segment) (step : Step) → r ≡ run limits start (came ++ take used piece) → (is_done r.phase ≡ false → used ≡ length piece) → step ≡ outcome_of r.phase taken → Spelt limits (came ++ piece ++ b ∷ more) message → (used ≡ length piece) × (step ≡ steps.More)
+part_returns limits r came piece used taken b more message step is all at spelt =
     let bytes = came ++ take used piece in
     let rest = drop used piece in
     let whole : came ++ piece ++ b ∷ more ≡ bytes ++ (rest ++ b ∷ more) = ap (λ x. x ++ b ∷ more) (sym (taken_rest came piece used)) ∙ append_assoc bytes rest (b ∷ more) in
     let live = ap (λ (x : Reading). is_done x.phase) is ∙ rest_live limits bytes rest b more message (subst (λ (x : List ℕ). Spelt limits x message) whole spelt) in
     (all live, at ∙ live_more r.phase taken live)
 
--- what feed answers at the end of a spelling
-pub record AtEnd (r : Reading) (came front : List ℕ) (n : ℕ) (message : List Segment) : Type 0 where
+-- what feed returns at the end of a spelling
+pub record AtEnd (r : Reading) (came prefix : List ℕ) (n : ℕ) (message : List Segment) : Type 0 where
   pub phase : r.phase ≡ Whole
   pub segments : r.segments ≡ message
-  pub used : length came + n ≡ length front
+  pub used : length came + n ≡ length prefix
 
-at_end : (limits : Limits) (r : Reading) (came piece front : List ℕ) (n : ℕ) (message : List Segment) → n ≤ length piece → r ≡ run limits start (came ++ take n piece) → came ++ take n piece ≡ front → Spelt limits front message → AtEnd r came front n message
-at_end limits r came piece front n message within is same spelt =
-    let reads = spelt_run limits front message spelt in
+at_end : (limits : Limits) (r : Reading) (came piece prefix : List ℕ) (n : ℕ) (message : List Segment) → n ≤ length piece → r ≡ run limits start (came ++ take n piece) → came ++ take n piece ≡ prefix → Spelt limits prefix message → AtEnd r came prefix n message
+at_end limits r came piece prefix n message within is same spelt =
+    let reads = spelt_run limits prefix message spelt in
     let here = is ∙ ap (run limits start) same in
     record {
       phase = ap (λ (x : Reading). x.phase) here ∙ reads.phase;
@@ -78,33 +78,33 @@ at_end limits r came piece front n message within is same spelt =
     }
 
 -- the bytes taken end before the spelling does, or with it
-end_longer : (limits : Limits) (r : Reading) (came piece front behind : List ℕ) (n : ℕ) (message : List Segment) → n ≤ length piece → r ≡ run limits start (came ++ take n piece) → (is_done r.phase ≡ false → n ≡ length piece) → Spelt limits front message → (came ++ take n piece) ++ drop n piece ≡ front ++ behind → (more : List ℕ) → front ≡ (came ++ take n piece) ++ more → AtEnd r came front n message
-end_longer limits r came piece front behind n message within is all spelt joined [] at = at_end limits r came piece front n message within is (sym (at ∙ append-nil (came ++ take n piece))) spelt
-end_longer limits r came piece front behind n message within is all spelt joined (b ∷ more) at =
+end_longer : (limits : Limits) (r : Reading) (came piece prefix after : List ℕ) (n : ℕ) (message : List Segment) → n ≤ length piece → r ≡ run limits start (came ++ take n piece) → (is_done r.phase ≡ false → n ≡ length piece) → Spelt limits prefix message → (came ++ take n piece) ++ drop n piece ≡ prefix ++ after → (more : List ℕ) → prefix ≡ (came ++ take n piece) ++ more → AtEnd r came prefix n message
+end_longer limits r came piece prefix after n message within is all spelt joined [] at = at_end limits r came piece prefix n message within is (sym (at ∙ append-nil (came ++ take n piece))) spelt
+end_longer limits r came piece prefix after n message within is all spelt joined (b ∷ more) at =
     let bytes = came ++ take n piece in
     let live = ap (λ (x : Reading). is_done x.phase) is ∙ inside_live limits bytes b more message (subst (λ (x : List ℕ). Spelt limits x message) at spelt) in
     let size = all live in
     let none = length-drop n piece in
-    let left = sym (length-append bytes (drop n piece)) ∙ ap length joined ∙ length-append front behind in
+    let left = sym (length-append bytes (drop n piece)) ∙ ap length joined ∙ length-append prefix after in
     let right = ap length at ∙ length-append bytes (b ∷ more) in
     absurd (omega (arith, size, none, left, right))
 
--- the bytes taken go on behind the spelling: there are none there
-end_shorter : (limits : Limits) (r : Reading) (came piece front : List ℕ) (n : ℕ) (message : List Segment) → n ≤ length piece → r ≡ run limits start (came ++ take n piece) → r.count ≡ length (came ++ take n piece) → Spelt limits front message → (more : List ℕ) → came ++ take n piece ≡ front ++ more → AtEnd r came front n message
-end_shorter limits r came piece front n message within is counted spelt [] at = at_end limits r came piece front n message within is (at ∙ append-nil front) spelt
-end_shorter limits r came piece front n message within is counted spelt (b ∷ more) at =
-    let reads = spelt_run limits front message spelt in
-    let same = is ∙ ap (run limits start) at ∙ run_behind limits front (b ∷ more) (ap is_done reads.phase) in
-    let count = sym (ap (λ (x : Reading). x.count) same) ∙ counted ∙ ap length at ∙ length-append front (b ∷ more) in
+-- the bytes taken go on after the spelling: there are none there
+end_shorter : (limits : Limits) (r : Reading) (came piece prefix : List ℕ) (n : ℕ) (message : List Segment) → n ≤ length piece → r ≡ run limits start (came ++ take n piece) → r.count ≡ length (came ++ take n piece) → Spelt limits prefix message → (more : List ℕ) → came ++ take n piece ≡ prefix ++ more → AtEnd r came prefix n message
+end_shorter limits r came piece prefix n message within is counted spelt [] at = at_end limits r came piece prefix n message within is (at ∙ append-nil prefix) spelt
+end_shorter limits r came piece prefix n message within is counted spelt (b ∷ more) at =
+    let reads = spelt_run limits prefix message spelt in
+    let same = is ∙ ap (run limits start) at ∙ run_after limits prefix (b ∷ more) (ap is_done reads.phase) in
+    let count = sym (ap (λ (x : Reading). x.count) same) ∙ counted ∙ ap length at ∙ length-append prefix (b ∷ more) in
     absurd (omega (arith, count, reads.count))
 
-pub end_answers : (limits : Limits) (r : Reading) (came piece front behind : List ℕ) (n : ℕ) (message : List Segment) → n ≤ length piece → r ≡ run limits start (came ++ take n piece) → r.count ≡ length (came ++ take n piece) → (is_done r.phase ≡ false → n ≡ length piece) → Spelt limits front message → came ++ piece ≡ front ++ behind → AtEnd r came front n message
-end_answers limits r came piece front behind n message within is counted all spelt e =
+pub end_returns : (limits : Limits) (r : Reading) (came piece prefix after : List ℕ) (n : ℕ) (message : List Segment) → n ≤ length piece → r ≡ run limits start (came ++ take n piece) → r.count ≡ length (came ++ take n piece) → (is_done r.phase ≡ false → n ≡ length piece) → Spelt limits prefix message → came ++ piece ≡ prefix ++ after → AtEnd r came prefix n message
+end_returns limits r came piece prefix after n message within is counted all spelt e =
     let bytes = came ++ take n piece in
     let joined = taken_rest came piece n ∙ e in
-    elim (two_fronts bytes (drop n piece) front behind joined) [
-      | inl longer ↦ end_longer limits r came piece front behind n message within is all spelt joined longer.more longer.is
-      | inr longer ↦ end_shorter limits r came piece front n message within is counted spelt longer.more longer.is
+    elim (two_prefixes bytes (drop n piece) prefix after joined) [
+      | inl longer ↦ end_longer limits r came piece prefix after n message within is all spelt joined longer.more longer.is
+      | inr longer ↦ end_shorter limits r came piece prefix n message within is counted spelt longer.more longer.is
     ]
 
 -- only white bytes
@@ -120,7 +120,7 @@ white_told limits bytes counted due none =
           let phase : r.phase ≡ Due = sym (ap (λ (x : Reading). x.phase) clean.1) ∙ due in
           let segments : r.segments ≡ [] = sym (ap (λ (x : Reading). x.segments) clean.1) ∙ none in
           let t = told_at (core r.segments r.pending Due) bytes (sym (core_go start bytes) ∙ ap (core r.segments r.pending) phase) in
-          subst (AllByRecursion IsWhite) (sym (white_only t.parts t.tail bytes (sym segments ∙ t.says) t.is)) t.behind.1
+          subst (AllByRecursion IsWhite) (sym (white_only t.parts t.tail bytes (sym segments ∙ t.message_is) t.is)) t.after.1
           )
       | inr broke ↦ absurd (let h : Stuck broke.reason ≡ Due = sym broke.phase ∙ due in cc)
     ]
@@ -152,21 +152,56 @@ between_is DataEnd segments taken e = absurd (cc)
 between_is BytesEnd segments taken e = absurd (cc)
 between_is MessageEnd segments taken e = absurd (cc)
 
+-- where more is needed no fault stands
+more_free : (p : Phase) (taken : ℕ) → outcome_of p taken ≡ steps.More → (reason : Reason) → p ≡ Stuck reason → ⊥
+more_free p taken none reason stuck = let e = sym none ∙ ap (λ q. outcome_of q taken) stuck in cc
+
 -- a session ends between messages where a message stands, or where no fault does and only white bytes came since the last one
 pub ends_between : (d : Decoding) (came : List ℕ) → Took d came → end_of d.reading.phase d.reading.segments d.taken ≡ ends.Between → EndsBetween d came
 ends_between d came took e =
-    let counted = sym (ap (λ (x : Reading). x.count) took.0) ∙ took.1 in
+    let counted = sym (ap (λ (x : Reading). x.count) took.reading) ∙ took.count in
     elim (between_is d.reading.phase d.reading.segments d.taken e) [
-      | inl whole ↦ inl whole
+      | inl whole ↦ inl (took.shows.standing ∙ ap (λ p. outcome_of p d.taken) whole)
       | inr due ↦ inr (
-        (λ reason stuck. let h : Due ≡ Stuck reason = sym due.0 ∙ stuck in cc),
-        white_told d.limits came counted (sym (ap (λ (x : Reading). x.phase) took.0) ∙ due.0) (sym (ap (λ (x : Reading). x.segments) took.0) ∙ due.1),
+        took.shows.standing ∙ ap (λ p. outcome_of p d.taken) due.0,
+        white_told d.limits came counted (sym (ap (λ (x : Reading). x.phase) took.reading) ∙ due.0) (sym (ap (λ (x : Reading). x.segments) took.reading) ∙ due.1),
       )
     ]
 
+-- where a message stands the machine has read a whole one
+message_whole : (p : Phase) (taken : ℕ) → outcome_of p taken ≡ steps.Message → p ≡ Whole
+message_whole Whole taken e = refl
+message_whole (Stuck reason) taken e = absurd (cc)
+message_whole _ taken e = absurd (cc)
+
 pub between_ends : (d : Decoding) (came : List ℕ) → Took d came → EndsBetween d came → end_of d.reading.phase d.reading.segments d.taken ≡ ends.Between
-between_ends d came took (inl whole) = ap (λ p. end_of p d.reading.segments d.taken) whole
+between_ends d came took (inl stands) = ap (λ p. end_of p d.reading.segments d.taken) (message_whole d.reading.phase d.taken (sym took.shows.standing ∙ stands))
 between_ends d came took (inr white) =
-    let counted = sym (ap (λ (x : Reading). x.count) took.0) ∙ took.1 in
-    let reads = white_reads d.limits came counted white.1 (λ reason stuck. white.0 reason (ap (λ (x : Reading). x.phase) took.0 ∙ stuck)) in
-    ap (λ p. end_of p d.reading.segments d.taken) (ap (λ (x : Reading). x.phase) took.0 ∙ reads.0) ∙ ap (λ ss. end_of Due ss d.taken) (ap (λ (x : Reading). x.segments) took.0 ∙ reads.1)
+    let counted = sym (ap (λ (x : Reading). x.count) took.reading) ∙ took.count in
+    let reads = white_reads d.limits came counted white.1 (λ reason stuck. more_free d.reading.phase d.taken (sym took.shows.standing ∙ white.0) reason (ap (λ (x : Reading). x.phase) took.reading ∙ stuck)) in
+    ap (λ p. end_of p d.reading.segments d.taken) (ap (λ (x : Reading). x.phase) took.reading ∙ reads.0) ∙ ap (λ ss. end_of Due ss d.taken) (ap (λ (x : Reading). x.segments) took.reading ∙ reads.1)
+
+-- inside a message the number of bytes taken is told
+pub inside_place : (p : Phase) (segments : List Segment) (taken place : ℕ) → ends.Inside place ≡ end_of p segments taken → place ≡ taken
+inside_place Whole segments taken place e = absurd (cc)
+inside_place Due [] taken place e = absurd (cc)
+inside_place Due (s ∷ ss) taken place e = cc
+inside_place _ segments taken place e = cc
+
+-- a fault's place is the number of bytes taken
+pub placed : (p : Phase) (taken : ℕ) → IsPlaced (outcome_of p taken) taken
+placed Whole taken = tt
+placed (Stuck reason) taken = refl
+placed _ taken = tt
+
+-- where a message or a fault stands nothing more is read
+pub stood_done : (p : Phase) (taken : ℕ) → (outcome_of p taken ≡ steps.More → ⊥) → is_done p ≡ true
+stood_done Whole taken stands = refl
+stood_done (Stuck reason) taken stands = refl
+stood_done _ taken stands = absurd (stands refl)
+
+-- where more is needed nothing is done
+pub more_live : (p : Phase) (taken : ℕ) → outcome_of p taken ≡ steps.More → is_done p ≡ false
+more_live Whole taken e = absurd (cc)
+more_live (Stuck reason) taken e = absurd (cc)
+more_live _ taken e = refl
