@@ -5,7 +5,7 @@ use Rattle.doip_segment.specs.declared.outcome.Limits.{Limits}
 use Rattle.doip_segment.specs.declared.outcome.Reason.{Reason}
 use Rattle.doip_segment.specs.declared.outcome.Step.{Step}
 use Rattle.doip_segment.specs.declared.outcome.Step.TheVariants.{More, Message, Fault}
-use Rattle.doip_segment.specs.Framing.{NothingSpelt, Framed, Broken, IsUnfinished, told}
+use Rattle.doip_segment.specs.Framing.{NothingSpelt, Framed, Broken, IsUnfinished, saturated}
 use Rattle.doip_segment.specs.Decoding.{Decoding, Frames}
 use Rattle.doip_segment.specs.Session.{Call, came_after, IsSession, bytes_of, messages_of, rest_of, EndsAt, Ends}
 use Rattle.doip_segment.proofs.LawLemmas.{spelling_some, one_framing}
@@ -29,7 +29,7 @@ empty_unbroken limits place reason broken =
 -- what stands before a session's calls: these bytes were framed, these came after them, and so many are counted
 pub record Before (limits : Limits) (past came : List ℕ) (count : ℕ) (last : Step) : Type 0 where
   pub unspelt : NothingSpelt limits came
-  pub taken : count ≡ told (length past + length came)
+  pub taken : count ≡ saturated (length past + length came)
   pub ends : EndsAt limits (past ++ came) came last
 
 pub before_start : (limits : Limits) → Before limits [] [] 0 More
@@ -63,17 +63,17 @@ broken_prefix limits bytes after reason broken =
     }
 
 -- the count of bytes after a call
-counted : (past came fed : List ℕ) (before now : ℕ) → before ≡ told (length past + length came) → now ≡ told (before + length fed) → now ≡ told (length past + length (came ++ fed))
+counted : (past came fed : List ℕ) (before now : ℕ) → before ≡ saturated (length past + length came) → now ≡ saturated (before + length fed) → now ≡ saturated (length past + length (came ++ fed))
 counted past came fed before now old new = omega (arith, old, new, length-append came fed)
 
 -- after a call
-before_more : (limits : Limits) (past came piece : List ℕ) (used before : ℕ) (d : Decoding) → before ≡ told (length past + length came) → d.taken ≡ told (before + length (take used piece)) → Frames limits came piece used More d → Before limits past (came ++ take used piece) d.taken More
+before_more : (limits : Limits) (past came piece : List ℕ) (used before : ℕ) (d : Decoding) → before ≡ saturated (length past + length came) → d.taken ≡ saturated (before + length (take used piece)) → Frames limits came piece used More d → Before limits past (came ++ take used piece) d.taken More
 before_more limits past came piece used before d old new frames =
     let unfinished = subst (IsUnfinished limits) (sym (taken_all came piece used frames.0)) frames.1 in
     record { unspelt = unfinished.unspelt; taken = counted past came (take used piece) before d.taken old new; ends = unfinished.unbroken }
 
 -- how much of the piece a fault took
-before_fault : (limits : Limits) (past came piece : List ℕ) (used before place : ℕ) (reason : Reason) (d : Decoding) → before ≡ told (length past + length came) → d.taken ≡ told (before + length (take used piece)) → Frames limits came piece used (Fault place reason) d → Before limits past (came ++ take used piece) d.taken (Fault place reason)
+before_fault : (limits : Limits) (past came piece : List ℕ) (used before place : ℕ) (reason : Reason) (d : Decoding) → before ≡ saturated (length past + length came) → d.taken ≡ saturated (before + length (take used piece)) → Frames limits came piece used (Fault place reason) d → Before limits past (came ++ take used piece) d.taken (Fault place reason)
 before_fault limits past came piece used before place reason d old new frames =
     let joined : came ++ piece ≡ (came ++ take used piece) ++ drop used piece = ap (λ x. came ++ x) (sym (take-append-drop used piece)) ∙ sym (append_assoc came (take used piece) (drop used piece)) in
     let broken = frames.0 in
@@ -96,7 +96,7 @@ before_fault limits past came piece used before place reason d old new frames =
     }
 
 -- after a message nothing came yet
-before_next : (limits : Limits) (past came fed : List ℕ) (before now : ℕ) → before ≡ told (length past + length came) → now ≡ told (before + length fed) → Before limits (past ++ (came ++ fed)) [] now Message
+before_next : (limits : Limits) (past came fed : List ℕ) (before now : ℕ) → before ≡ saturated (length past + length came) → now ≡ saturated (before + length fed) → Before limits (past ++ (came ++ fed)) [] now Message
 before_next limits past came fed before now old new =
     record {
       unspelt = empty_unspelt limits;
@@ -122,7 +122,7 @@ past_on past came fed bytes = append_assoc past (came ++ fed) bytes ∙ ap (λ x
 abbrev pub Later : Limits → List ℕ → Call → List Call → Type 0
 Later limits came call calls = (past : List ℕ) (last : Step) → Before limits past (came_after came call call.step) call.decoder.taken last → Reached limits past (came_after came call call.step) calls last
 
-reached_by : (limits : Limits) (past came piece : List ℕ) (used before : ℕ) (step : Step) (d : Decoding) (calls : List Call) → before ≡ told (length past + length came) → d.taken ≡ told (before + length (take used piece)) → Frames limits came piece used step d → Later limits came (record { piece = piece; used = used; step = step; decoder = d }) calls → (last : Step) → Reached limits past came (record { piece = piece; used = used; step = step; decoder = d } ∷ calls) last
+reached_by : (limits : Limits) (past came piece : List ℕ) (used before : ℕ) (step : Step) (d : Decoding) (calls : List Call) → before ≡ saturated (length past + length came) → d.taken ≡ saturated (before + length (take used piece)) → Frames limits came piece used step d → Later limits came (record { piece = piece; used = used; step = step; decoder = d }) calls → (last : Step) → Reached limits past came (record { piece = piece; used = used; step = step; decoder = d } ∷ calls) last
 reached_by limits past came piece used before More d calls old new frames later last =
     let r = on limits past came (take used piece) calls More (later past More (before_more limits past came piece used before d old new frames)) in
     record { framed = r.0; ends = r.1 }

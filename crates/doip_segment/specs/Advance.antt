@@ -4,7 +4,7 @@ use Rattle.doip_segment.specs.declared.outcome.Limits.{Limits}
 use Rattle.doip_segment.specs.declared.phase.Phase.{Phase}
 use Rattle.doip_segment.specs.declared.phase.Phase.TheVariants.{Due, LineStart, MessageEnd, Whole, Stuck}
 use Rattle.doip_segment.specs.Segments.{Held, most_segments}
-use Rattle.doip_segment.specs.Framing.{most_total, told}
+use Rattle.doip_segment.specs.Framing.{most_total, saturated}
 use Rattle.doip_segment.specs.Machine.{run, IsInRange}
 use Rattle.doip_segment.specs.Decoding.{Decoding}
 
@@ -13,7 +13,7 @@ pub record Advances (n : ℕ) (bytes : List ℕ) (old new : Decoding) : Type 0 w
   pub limits : new.limits ≡ old.limits
   pub reading : new.reading ≡ run old.limits old.reading (take n bytes)
   pub count : new.reading.count ≡ old.reading.count + n
-  pub taken : new.taken ≡ told (old.taken + n)
+  pub taken : new.taken ≡ saturated (old.taken + n)
 
 -- the line feed that waits for the byte after it
 abbrev pub held_back : Phase → ℕ

@@ -6,11 +6,11 @@ use Rattle.doip_segment.specs.declared.outcome.Step.{Step}
 use Rattle.doip_segment.specs.declared.outcome.Step.TheVariants as steps
 use Rattle.doip_segment.specs.Segments.{Segment}
 use Rattle.doip_segment.specs.Grammar.{IsWhite}
-use Rattle.doip_segment.specs.Framing.{Spelt, NothingSpelt, Broken, IsUnfinished, told}
+use Rattle.doip_segment.specs.Framing.{Spelt, NothingSpelt, Broken, IsUnfinished, saturated}
 use Rattle.doip_segment.specs.Machine.{Reading, start, run, outcome_of}
 
 -- A decoder: its limits, what `feed` returns for no bytes, the segments of the message that stands, and how many bytes
--- were taken, at most 2^64 - 1 (`told`). Clauses name the reading through `Took` alone.
+-- were taken, at most 2^64 - 1 (`saturated`). Clauses name the reading through `Took` alone.
 pub record Decoding : Type 0 where
   pub limits : Limits
   pub standing : Step
@@ -46,7 +46,7 @@ IsPlaced _ taken = Unit {0}
 pub record Feeds (fed : List ℕ) (old new : Decoding) : Type 0 where
   pub limits : new.limits ≡ old.limits
   pub took : (came : List ℕ) → Took old came → Took new (came ++ fed)
-  pub taken : new.taken ≡ told (old.taken + length fed)
+  pub taken : new.taken ≡ saturated (old.taken + length fed)
 
 -- How much of a piece is consumed: all of it where more is needed. The place of a fault is the number of bytes taken.
 pub record Uses (piece : List ℕ) (used : ℕ) (step : Step) (new : Decoding) : Type 0 where

@@ -148,9 +148,9 @@ pub record IsUnfinished (limits : Limits) (bytes : List ℕ) : Type 0 where
   pub unspelt : NothingSpelt limits bytes
   pub unbroken : IsUnbroken limits bytes
 
--- a number of a session's bytes as it is told: at most the greatest number of 64 bits
-abbrev pub told : ℕ → ℕ
-told n = min n (2 ^ 64 - 1)
+-- a place in a session's bytes, or a number of them, as 64 bits hold it: at most the greatest such number
+abbrev pub saturated : ℕ → ℕ
+saturated n = min n (2 ^ 64 - 1)
 
 -- The rest of a session's bytes breaks for this reason, at this place of the session, counted from 1 at its first byte.
 pub record BreaksSession (limits : Limits) (bytes rest : List ℕ) (place : ℕ) (reason : Reason) : Type 0 where
@@ -158,4 +158,4 @@ pub record BreaksSession (limits : Limits) (bytes rest : List ℕ) (place : ℕ)
   pub at : ℕ
   pub all : before + length rest ≡ length bytes
   pub breaks : Broken limits rest at reason
-  pub is : place ≡ told (before + at)
+  pub is : place ≡ saturated (before + at)

@@ -5,7 +5,7 @@ use Rattle.doip_segment.specs.declared.outcome.Limits.{Limits}
 use Rattle.doip_segment.specs.declared.outcome.Step.{Step}
 use Rattle.doip_segment.specs.declared.outcome.Step.TheVariants.{Message, Fault}
 use Rattle.doip_segment.specs.Segments.{Segment}
-use Rattle.doip_segment.specs.Framing.{IsUnbroken, BreaksSession, told}
+use Rattle.doip_segment.specs.Framing.{IsUnbroken, BreaksSession, saturated}
 use Rattle.doip_segment.specs.Decoding.{Decoding, Frames}
 
 -- one call: its piece, what it returned, and the decoder after it
@@ -29,7 +29,7 @@ GoesOn _ calls = Unit {0}
 abbrev pub IsSession : Limits → List ℕ → ℕ → List Call → Type 0
 IsSession limits came taken [] = Unit {0}
 IsSession limits came taken (call ∷ calls) = Frames limits came call.piece call.used call.step call.decoder
-    × (call.decoder.taken ≡ told (taken + length (take call.used call.piece))) × GoesOn call.step calls
+    × (call.decoder.taken ≡ saturated (taken + length (take call.used call.piece))) × GoesOn call.step calls
     × IsSession limits (came_after came call call.step) call.decoder.taken calls
 
 -- all bytes that the calls took

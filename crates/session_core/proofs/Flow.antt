@@ -1,5 +1,5 @@
 -- Bytes on their way from a link through a reader into a decoder.
-use Rattle.std.proofs.Common.{◌≡◌, ◌≤◌, ◌+◌, ◌-◌, ◌^◌, ℕ, min, ◌<◌, ◌⊎◌, inl, inr, List, [], ◌++◌, length, take, drop, refl, sym, ap, ◌∙◌, subst, arith, append_assoc, append-nil, length-append}
+use Rattle.std.proofs.Common.{◌≡◌, ◌≤◌, ◌+◌, ◌-◌, ◌^◌, ℕ, ◌<◌, ◌⊎◌, inl, inr, List, [], ◌++◌, length, take, drop, refl, sym, ap, ◌∙◌, subst, arith, append_assoc, append-nil, length-append}
 use Rattle.std.proofs.lemmas.List.{take-append-drop, drop-take, drop-drop, length-take, length-take-le}
 use Rattle.std.proofs.Math.Seq.{take-append_seam}
 use Rattle.std.proofs.KnownBytes.{Appends-nil, Appends-trans, Consumes-nil, Consumes-trans}
@@ -7,13 +7,12 @@ use Rattle.std.specs.Io.KnownBytes.{Appends, Consumes}
 use Rattle.doip_segment.specs.declared.outcome.Limits.{Limits}
 use Rattle.doip_segment.specs.declared.outcome.Step.{Step}
 use Rattle.doip_segment.specs.declared.outcome.Step.TheVariants as steps
-use Rattle.doip_segment.specs.Segments.{Segment}
 use Rattle.doip_segment.specs.Framing.{Spelt, IsUnfinished, Broken, NothingSpelt}
-use Rattle.doip_segment.specs.Decoding.{Decoding, Took, Frames}
+use Rattle.doip_segment.specs.Decoding.{Decoding, Took, Uses, Feeds, Frames, Reports}
 use Rattle.session_core.specs.declared.reader.Next.{Next}
 use Rattle.session_core.specs.declared.reader.Next.TheVariants as nexts
 use Rattle.session_core.specs.Report.{Report}
-use Rattle.session_core.specs.Reading.{Feeds, FeedsHeld, FramesHeld, Flows, Stage, stage, MatchesEnd, step_of}
+use Rattle.session_core.specs.Reading.{FeedsHeld, FramesHeld, Flows, Stage, stage, MatchesEnd, step_of}
 
 -- what a buffer holds after n more bytes
 held_after : (s e n : ℕ) (bs : List ℕ) → s + n ≤ e → take (e - (s + n)) (drop (s + n) bs) ≡ drop n (take (e - s) (drop s bs))
@@ -24,14 +23,13 @@ held_after s e n bs within =
 
 -- A decoder that took the first n bytes of what the buffer holds.
 pub held_framed : (step : Step) (s e n : ℕ) (bs lent held : List ℕ) (old new : Decoding) → lent ≡ bs → take (e - s) (drop s bs) ≡ held → s ≤ e
-    → n ≤ length (take (e - s) (drop s lent)) → new.limits ≡ old.limits → ((came : List ℕ) → Took old came → Took new (came ++ take n (take (e - s) (drop s lent))))
-    → new.taken ≡ min (old.taken + n) (2 ^ 64 - 1)
-    → ((came : List ℕ) → Took old came → Frames old.limits came (take (e - s) (drop s lent)) n step new.reading.segments)
+    → Uses (take (e - s) (drop s lent)) n step new → Feeds (take n (take (e - s) (drop s lent))) old new
+    → ((came : List ℕ) → Took old came → Reports old.limits came (take (e - s) (drop s lent)) n step new)
     → FramesHeld step held (take (e - (s + n)) (drop (s + n) bs)) old new
-held_framed step s e n bs lent held old new same view order within limits took place frames =
+held_framed step s e n bs lent held old new same view order used feeds reports =
     let slice : take (e - s) (drop s lent) ≡ held = ap (λ (w : List ℕ). take (e - s) (drop s w)) same ∙ view in
-    let short : n ≤ e - s = omega (arith, within, length-take (e - s) (drop s lent)) in
-    let fits : n ≤ length held = omega (arith, within, ap length slice) in
+    let short : n ≤ e - s = omega (arith, used.within, length-take (e - s) (drop s lent)) in
+    let fits : n ≤ length held = omega (arith, used.within, ap length slice) in
     let size : length (take n held) ≡ n = length-take-le n held fits in
     let rest : take (e - (s + n)) (drop (s + n) bs) ≡ drop n held = held_after s e n bs (omega arith) ∙ ap (λ (w : List ℕ). drop n w) view in
     let split : held ≡ take n held ++ take (e - (s + n)) (drop (s + n) bs) =
@@ -39,13 +37,9 @@ held_framed step s e n bs lent held old new same view order within limits took p
     record {
       fed = take n held;
       split = split;
-      feeds = record {
-        limits = limits;
-        took = λ came h. subst (λ (w : List ℕ). Took new (came ++ take n w)) slice (took came h);
-        place = place ∙ ap (λ (k : ℕ). min (old.taken + k) (2 ^ 64 - 1)) (sym size);
-      };
-      frames = λ came h. subst (λ (k : ℕ). Frames old.limits came (take n held ++ take (e - (s + n)) (drop (s + n) bs)) k step new.reading.segments) (sym size)
-          (subst (λ (w : List ℕ). Frames old.limits came w n step new.reading.segments) (slice ∙ split) (frames came h));
+      feeds = subst (λ (w : List ℕ). Feeds (take n w) old new) slice feeds;
+      frames = λ came h. subst (λ (k : ℕ). Frames old.limits came (take n held ++ take (e - (s + n)) (drop (s + n) bs)) k step new) (sym size)
+          (subst (λ (w : List ℕ). Frames old.limits came w n step new) (slice ∙ split) (reports came h).frames);
     }
 
 -- what was fed first, and then what was fed after it
@@ -54,29 +48,30 @@ fed_after xs ys a b c first then =
     record {
       limits = then.limits ∙ first.limits;
       took = λ came h. subst (λ (w : List ℕ). Took c w) (append_assoc came xs ys) (then.took (came ++ xs) (first.took came h));
-      place = omega (arith, first.place, then.place, length-append xs ys);
+      taken = omega (arith, first.taken, then.taken, length-append xs ys);
     }
 
 regroup : (came xs ys rest : List ℕ) → (came ++ xs) ++ (ys ++ rest) ≡ came ++ ((xs ++ ys) ++ rest)
 regroup came xs ys rest = append_assoc came xs (ys ++ rest) ∙ ap (λ (w : List ℕ). came ++ w) (sym (append_assoc xs ys rest))
 
 -- what the bytes say doesn't depend on when they came
-framed_after : (limits : Limits) (came xs ys rest : List ℕ) (step : Step) (segments : List Segment) → Frames limits (came ++ xs) (ys ++ rest) (length ys) step segments
-    → Frames limits came ((xs ++ ys) ++ rest) (length (xs ++ ys)) step segments
-framed_after limits came xs ys rest steps.More segments h = (
+framed_after : (limits : Limits) (came xs ys rest : List ℕ) (step : Step) (new : Decoding) → Frames limits (came ++ xs) (ys ++ rest) (length ys) step new
+    → Frames limits came ((xs ++ ys) ++ rest) (length (xs ++ ys)) step new
+framed_after limits came xs ys rest steps.More new h = (
   omega (arith, h.0, length-append xs ys, length-append ys rest, length-append (xs ++ ys) rest),
   subst (λ (w : List ℕ). IsUnfinished limits w) (regroup came xs ys rest) h.1,
 )
-framed_after limits came xs ys rest steps.Message segments h =
+framed_after limits came xs ys rest steps.Message new h =
     let from : (came ++ xs) ++ take (length ys) (ys ++ rest) ≡ came ++ (xs ++ ys) =
     ap (λ (w : List ℕ). (came ++ xs) ++ w) (take-append_seam ys rest) ∙ append_assoc came xs ys in
     let to : came ++ (xs ++ ys) ≡ came ++ take (length (xs ++ ys)) ((xs ++ ys) ++ rest) = ap (λ (w : List ℕ). came ++ w) (sym (take-append_seam (xs ++ ys) rest)) in
-    subst (λ (w : List ℕ). Spelt limits w segments) (from ∙ to) h
-framed_after limits came xs ys rest (steps.Fault place reason) segments h =
+    subst (λ (w : List ℕ). Spelt limits w new.segments) (from ∙ to) h
+framed_after limits came xs ys rest (steps.Fault place reason) new h =
     let at : length (came ++ xs) + length ys ≡ length came + length (xs ++ ys) = omega (arith, length-append came xs, length-append xs ys) in (
       subst (λ (k : ℕ). Broken limits (came ++ ((xs ++ ys) ++ rest)) k reason) at
           (subst (λ (w : List ℕ). Broken limits w (length (came ++ xs) + length ys) reason) (regroup came xs ys rest) h.0),
       subst (λ (w : List ℕ). NothingSpelt limits w) (regroup came xs ys rest) h.1,
+      h.2,
     )
 
 -- What a reader has passed on so far: the link gave bytes, and of what it held and these the decoder took all but what it holds.
@@ -97,7 +92,7 @@ nothing_passes s within =
       taken = Appends-nil s.link.taken;
       left = Consumes-nil s.link.left;
       split = append-nil s.held;
-      feeds = record { limits = refl; took = λ came h. subst (λ (w : List ℕ). Took s.decoder w) (sym (append-nil came)) h; place = omega arith };
+      feeds = record { limits = refl; took = λ came h. subst (λ (w : List ℕ). Took s.decoder w) (sym (append-nil came)) h; taken = omega arith };
     }
 
 -- what the reader holds goes into the decoder, up to a message, a fault or its end
@@ -110,8 +105,8 @@ flows_on step s0 s1 h2 c pass more =
       left = pass.left;
       split = pass.split ∙ ap (λ (w : List ℕ). pass.fed ++ w) more.split ∙ sym (append_assoc pass.fed more.fed h2);
       feeds = fed_after pass.fed more.fed s0.decoder s1.decoder c pass.feeds more.feeds;
-      frames = λ came h. framed_after s0.decoder.limits came pass.fed more.fed h2 step c.reading.segments
-          (subst (λ (l : Limits). Frames l (came ++ pass.fed) (more.fed ++ h2) (length more.fed) step c.reading.segments) pass.feeds.limits
+      frames = λ came h. framed_after s0.decoder.limits came pass.fed more.fed h2 step c
+          (subst (λ (l : Limits). Frames l (came ++ pass.fed) (more.fed ++ h2) (length more.fed) step c) pass.feeds.limits
           (more.frames (came ++ pass.fed) (pass.feeds.took came h)));
     }
 
@@ -141,7 +136,7 @@ flows_still step s0 s1 h2 r2 flow empty none taken left =
       left = all.left;
       split = all.split;
       feeds = all.feeds;
-      frames = λ came h. subst (λ (w : List ℕ). Frames s0.decoder.limits came (flow.fed ++ w) (length flow.fed) step s1.decoder.reading.segments) (empty ∙ sym none) (flow.frames came h);
+      frames = λ came h. subst (λ (w : List ℕ). Frames s0.decoder.limits came (flow.fed ++ w) (length flow.fed) step s1.decoder) (empty ∙ sym none) (flow.frames came h);
     }
 
 -- nothing was fed yet
@@ -150,7 +145,7 @@ nothing_fed held d within =
     record {
       fed = [];
       split = refl;
-      feeds = record { limits = refl; took = λ came h. subst (λ (w : List ℕ). Took d w) (sym (append-nil came)) h; place = omega arith };
+      feeds = record { limits = refl; took = λ came h. subst (λ (w : List ℕ). Took d w) (sym (append-nil came)) h; taken = omega arith };
     }
 
 -- what the reader held goes on into the decoder

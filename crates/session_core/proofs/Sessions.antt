@@ -8,15 +8,16 @@ use Rattle.doip_segment.specs.declared.outcome.Reason.{Reason}
 use Rattle.doip_segment.specs.declared.outcome.Step.{Step}
 use Rattle.doip_segment.specs.declared.outcome.Step.TheVariants as steps
 use Rattle.doip_segment.specs.Segments.{Segment}
-use Rattle.doip_segment.specs.Framing.{Spelt, Framed, Broken, NothingSpelt, IsUnfinished}
+use Rattle.doip_segment.specs.Framing.{Spelt, Framed, Broken, NothingSpelt, IsUnfinished, saturated, IsUnbroken}
 use Rattle.doip_segment.specs.Decoding.{Decoding, Took, EndsBetween, IsStanding, Frames}
 use Rattle.session_core.specs.Reading.{FeedsHeld, Flows, Stage, stage, IsSpent}
 use Rattle.session_core.specs.Report.{Report, Moves}
 use Rattle.session_core.specs.declared.end.SessionEnd.TheVariants.{Ended, Cut, Framing, ReadFault, WriteFault}
 use Rattle.session_core.specs.Pairs.{Pair, pair, messages_of, texts_of}
-use Rattle.session_core.specs.Session.{saturated, framing_text, IsUnbroken, Served}
+use Rattle.session_core.specs.Session.{framing_text, Served}
 use Rattle.session_core.proofs.Framings.{Spells, spells_more, spells_framed, spells_rest}
-use Rattle.session_core.proofs.Outcomes.{white_between, between_white, standing_fed}
+use Rattle.session_core.proofs.Outcomes.{white_between, between_white}
+use Rattle.doip_segment.proofs.FeedLemmas.{standing_some}
 use Rattle.session_core.proofs.Reports.{Writes, moves_nothing, only_reads, only_writes}
 
 -- the texts of one pair more
@@ -67,10 +68,10 @@ read_on limits old new t0 s1 s2 h f kept rises =
     (only_reads t0 s1.link s2.link (h.spelt ++ s1.held) f.gave (texts_of h.pairs) h.moved f.taken f.left kept rises)
 
 -- the bytes fed since the last message spell the next
-spelt_next : (limits outer : Limits) (fed rest : List ℕ) (segments : List Segment) → limits ≡ outer
-    → Frames limits [] (fed ++ rest) (length fed) steps.Message segments → Spelt outer fed segments
-spelt_next limits outer fed rest segments same h =
-    subst (λ (l : Limits). Spelt l fed segments) same (subst (λ (w : List ℕ). Spelt limits w segments) (take-append_seam fed rest) h)
+spelt_next : (limits outer : Limits) (fed rest : List ℕ) (new : Decoding) → limits ≡ outer
+    → Frames limits [] (fed ++ rest) (length fed) steps.Message new → Spelt outer fed new.segments
+spelt_next limits outer fed rest new same h =
+    subst (λ (l : Limits). Spelt l fed new.segments) same (subst (λ (w : List ℕ). Spelt limits w new.segments) (take-append_seam fed rest) h)
 
 -- A message more has its reply, of which these bytes were written.
 pub record Turned (limits : Limits) (old new : List Pair) (last : Pair) (wrote : List ℕ) (before after : Report) (s : Stage) : Type 0 where
@@ -84,11 +85,11 @@ pub record Turned (limits : Limits) (old new : List Pair) (last : Pair) (wrote :
 
 -- a message is read, and its reply written or a prefix of it
 pub turned : (limits : Limits) (old es next : List Pair) (text wrote : List ℕ) (t0 t3 : Report) (s1 s2 : Stage)
-    → next ≡ es ++ pair s2.decoder.reading.segments text ∷ [] → HasServed limits old es t0 s1 → Flows steps.Message s1 s2
+    → next ≡ es ++ pair s2.decoder.segments text ∷ [] → HasServed limits old es t0 s1 → Flows steps.Message s1 s2
     → Keeps s1.link.written s2.link.written → s1.link.faults ≤ s2.link.faults → Writes s2.link t3 wrote
-    → Turned limits old next (pair s2.decoder.reading.segments text) wrote t0 t3 s2
+    → Turned limits old next (pair s2.decoder.segments text) wrote t0 t3 s2
 turned limits old es next text wrote t0 t3 s1 s2 is served flow kept rises writes =
-    let p : Pair = pair s2.decoder.reading.segments text in
+    let p : Pair = pair s2.decoder.segments text in
     record {
       pairs = served.pairs;
       spelt = served.spelt ++ flow.fed;
@@ -96,10 +97,10 @@ turned limits old es next text wrote t0 t3 s1 s2 is served flow kept rises write
       moved = only_writes t0 s2.link t3 ((served.spelt ++ flow.fed) ++ s2.held) (texts_of served.pairs) wrote
           (read_on limits old es t0 s1 s2 served flow kept rises) writes;
       spells = subst (λ (ms : List (List Segment)). Spells limits (served.spelt ++ flow.fed) ms) (sym (messages_more served.pairs p))
-          (spells_more limits served.spelt flow.fed (messages_of served.pairs) s2.decoder.reading.segments served.spells
-          (spelt_next s1.decoder.limits limits flow.fed s2.held s2.decoder.reading.segments served.bound (flow.frames [] served.took)));
+          (spells_more limits served.spelt flow.fed (messages_of served.pairs) s2.decoder.segments served.spells
+          (spelt_next s1.decoder.limits limits flow.fed s2.held s2.decoder served.bound (flow.frames [] served.took)));
       bound = flow.feeds.limits ∙ served.bound;
-      place = omega (arith, flow.feeds.place, served.place, length-append served.spelt flow.fed);
+      place = omega (arith, flow.feeds.taken, served.place, length-append served.spelt flow.fed);
     }
 
 -- the reply was written, and the message is dropped
@@ -126,7 +127,7 @@ pub reply_failed : (limits : Limits) (old next : List Pair) (last : Pair) (n : �
 reply_failed limits old next last n t0 t2 t3 s2 framing turn rises rose =
     let after = framing limits s2.held in
     record {
-      exchange = record {
+      conversation = record {
         read = turn.spelt ++ s2.held;
         messages = messages_of (turn.pairs ++ last ∷ []) ++ after.0;
         rest = after.1;
@@ -174,7 +175,7 @@ halts limits old es t0 s1 s2 served flow none kept rises =
       framed = spells_rest limits served.spelt flow.fed (messages_of served.pairs) served.spells unfinished.unspelt;
       unbroken = unfinished.unbroken;
       took = flow.feeds.took [] served.took;
-      place = omega (arith, flow.feeds.place, served.place, length-append served.spelt flow.fed);
+      place = omega (arith, flow.feeds.taken, served.place, length-append served.spelt flow.fed);
     }
 
 -- the link's end between messages
@@ -182,7 +183,7 @@ pub ended : (limits : Limits) (old es : List Pair) (t0 t2 : Report) (held : List
     → IsSpent held t2.left d2 → ((came : List ℕ) → Took d2 came → EndsBetween d2 came) → Served limits old es t0 t2 Ended
 ended limits old es t0 t2 held d2 s spent between =
     record {
-      exchange = record { read = s.spelt ++ s.rest; messages = messages_of s.pairs; rest = s.rest; pairs = s.pairs; written = texts_of s.pairs };
+      conversation = record { read = s.spelt ++ s.rest; messages = messages_of s.pairs; rest = s.rest; pairs = s.pairs; written = texts_of s.pairs };
       pairs = s.are;
       moved = s.moved;
       framed = s.framed;
@@ -200,7 +201,7 @@ pub cut : (limits : Limits) (old es : List Pair) (t0 t2 : Report) (held : List �
     → Served limits old es t0 t2 (Cut place)
 cut limits old es t0 t2 held place d2 s spent is inside =
     record {
-      exchange = record { read = s.spelt ++ s.rest; messages = messages_of s.pairs; rest = s.rest; pairs = s.pairs; written = texts_of s.pairs };
+      conversation = record { read = s.spelt ++ s.rest; messages = messages_of s.pairs; rest = s.rest; pairs = s.pairs; written = texts_of s.pairs };
       pairs = s.are;
       moved = s.moved;
       framed = s.framed;
@@ -218,7 +219,7 @@ pub read_failed : (limits : Limits) (old es : List Pair) (t0 t1 t2 : Report) (d2
     → t0.faults ≤ t1.faults → Rose t1.faults t2.faults → Served limits old es t0 t2 ReadFault
 read_failed limits old es t0 t1 t2 d2 s before rose =
     record {
-      exchange = record { read = s.spelt ++ s.rest; messages = messages_of s.pairs; rest = s.rest; pairs = s.pairs; written = texts_of s.pairs };
+      conversation = record { read = s.spelt ++ s.rest; messages = messages_of s.pairs; rest = s.rest; pairs = s.pairs; written = texts_of s.pairs };
       pairs = s.are;
       moved = s.moved;
       framed = s.framed;
@@ -256,7 +257,7 @@ breaks_at limits old es last t0 t3 s1 s2 place reason served flow kept rises wri
           (subst (λ (l : Limits). NothingSpelt l (flow.fed ++ s2.held)) served.bound fault.1);
       breaks = subst (λ (l : Limits). Broken l (flow.fed ++ s2.held) (length flow.fed) reason) served.bound
           (subst (λ (k : ℕ). Broken s1.decoder.limits (flow.fed ++ s2.held) k reason) (zero-add (length flow.fed)) fault.0);
-      at = omega (arith, is, flow.feeds.place, served.place);
+      at = omega (arith, is, flow.feeds.taken, served.place);
     }
 
 -- the framing text was written
@@ -264,7 +265,7 @@ pub framing_written : (limits : Limits) (old es : List Pair) (t0 t3 : Report) (p
     → Breaks limits old es t0 t3 place reason framing_text → Served limits old es t0 t3 (Framing place reason)
 framing_written limits old es t0 t3 place reason b =
     record {
-      exchange = record {
+      conversation = record {
         read = b.spelt ++ b.rest;
         messages = messages_of b.pairs;
         rest = b.rest;
@@ -274,7 +275,7 @@ framing_written limits old es t0 t3 place reason b =
       pairs = b.are;
       moved = b.moved;
       framed = b.framed;
-      ends = (record { each = refl; wrote = refl }, b.p, b.breaks, length b.spelt, sym (length-append b.spelt b.rest), b.at);
+      ends = (record { each = refl; wrote = refl }, record { before = length b.spelt; at = b.p; all = sym (length-append b.spelt b.rest); breaks = b.breaks; is = b.at });
     }
 
 -- the write of the framing text failed
@@ -283,7 +284,7 @@ pub framing_failed : (limits : Limits) (old es : List Pair) (t0 t2 t3 : Report) 
     → Served limits old es t0 t3 WriteFault
 framing_failed limits old es t0 t2 t3 place reason n b before rose =
     record {
-      exchange = record {
+      conversation = record {
         read = b.spelt ++ b.rest;
         messages = messages_of b.pairs;
         rest = b.rest;
@@ -304,5 +305,5 @@ pub falls : (r0 r1 r2 : ℕ) (h0 h2 : List ℕ) (a b : Decoding) → (r1 < r0) �
     → length h2 ≤ 65536 → Took a [] → IsStanding b → r2 * 65537 + length h2 < r0 * 65537 + length h0
 falls r0 r1 r2 h0 h2 a b (inl fell) less order bound took stands = omega arith
 falls r0 r1 r2 h0 h2 a b (inr f) less order bound took stands =
-    let some : 0 < length f.fed = standing_fed f.fed b (f.feeds.took [] took) stands in
+    let some : 0 < length f.fed = standing_some b f.fed (f.feeds.took [] took) stands in
     omega (arith, ap length f.split, length-append f.fed h2)

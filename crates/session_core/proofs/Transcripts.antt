@@ -7,12 +7,12 @@ use Rattle.doip_segment.specs.declared.outcome.Limits.{Limits}
 use Rattle.doip_segment.specs.declared.outcome.Reason.{Reason}
 use Rattle.doip_segment.specs.Segments.{Segment}
 use Rattle.doip_segment.specs.Grammar.{IsWhite}
-use Rattle.doip_segment.specs.Framing.{Framed, Broken}
+use Rattle.doip_segment.specs.Framing.{Framed, Broken, saturated, IsUnbroken}
 use Rattle.session_core.specs.Report.{Report}
 use Rattle.session_core.specs.declared.end.SessionEnd.{SessionEnd}
 use Rattle.session_core.specs.declared.end.SessionEnd.TheVariants.{Ended, Cut, Framing, ReadFault, WriteFault}
 use Rattle.session_core.specs.Pairs.{Pair, messages_of, texts_of}
-use Rattle.session_core.specs.Session.{saturated, framing_text, IsUnbroken, Exchange, RepliesToAll, ReplyFailed, FramingFailed, EndsSo, Transcript, Session, Served, IsTranscript}
+use Rattle.session_core.specs.Session.{framing_text, Conversation, RepliesToAll, ReplyFailed, FramingFailed, EndsSo, Transcript, Session, Served, IsTranscript}
 use Rattle.session_core.specs.Cuts.{ReadTheSame, ReadTheirInput, ReadsAll, IsFaultless}
 
 -- ---- a link that reports its bytes
@@ -42,7 +42,7 @@ end_known None unread e h = absurd (cc)
 end_known (Some x) unread e h = let same : x ≡ unread = cc in sym same ∙ h
 
 -- the link's end in other words
-ends_as : (limits : Limits) (x : Exchange) (P Q rose : Type 0) (end : SessionEnd) → (P → Q) → EndsSo limits x P rose end → EndsSo limits x Q rose end
+ends_as : (limits : Limits) (x : Conversation) (P Q rose : Type 0) (end : SessionEnd) → (P → Q) → EndsSo limits x P rose end → EndsSo limits x Q rose end
 ends_as limits x P Q rose Ended f h = (h.0, f h.1, h.2, h.3)
 ends_as limits x P Q rose (Cut place) f h = (h.0, f h.1, h.2, h.3, h.4)
 ends_as limits x P Q rose (Framing place reason) f h = h
@@ -53,30 +53,30 @@ ends_as limits x P Q rose WriteFault f h = h
 pub transcribed : (limits : Limits) (old new : List Pair) (before after : Report) (end : SessionEnd) (input : List ℕ) → before.left ≡ Some input
     → Served limits old new before after end → (t : Transcript) × Session limits t × IsTranscript old new before after end t
 transcribed limits old new before after end input known s =
-    let rest = rest_known before.left after.left s.exchange.read input s.moved.left known in
+    let rest = rest_known before.left after.left s.conversation.read input s.moved.left known in
     let t : Transcript = record {
-      read = s.exchange.read;
+      read = s.conversation.read;
       unread = rest.unread;
-      written = s.exchange.written;
-      pairs = s.exchange.pairs;
+      written = s.conversation.written;
+      pairs = s.conversation.pairs;
       before = before.faults;
       after = after.faults;
       end = end;
     } in (
       t,
       record {
-        messages = s.exchange.messages;
-        rest = s.exchange.rest;
+        messages = s.conversation.messages;
+        rest = s.conversation.rest;
         framed = s.framed;
-        ends = ends_as limits s.exchange (IsAtEnd after.left) (rest.unread ≡ []) (Rose before.faults after.faults) end
+        ends = ends_as limits s.conversation (IsAtEnd after.left) (rest.unread ≡ []) (Rose before.faults after.faults) end
             (end_known after.left rest.unread rest.left) s.ends;
       },
       record {
         pairs = s.pairs;
         input = rest.whole;
         left = rest.left;
-        taken = λ bytes e. appends_known before.taken after.taken s.exchange.read bytes s.moved.taken e;
-        written = λ bytes e. appends_known before.written after.written s.exchange.written bytes s.moved.written e;
+        taken = λ bytes e. appends_known before.taken after.taken s.conversation.read bytes s.moved.taken e;
+        written = λ bytes e. appends_known before.written after.written s.conversation.written bytes s.moved.written e;
         faults_before = refl;
         faults_after = refl;
         end_is = refl;
@@ -91,15 +91,15 @@ IsLast limits rest last =
     ((last ≡ []) × IsUnbroken limits rest) ⊎ ((last ≡ framing_text) × (place : ℕ) × (reason : Reason) × Broken limits rest place reason)
 
 -- A session in which no write failed.
-record Whole (limits : Limits) (x : Exchange) : Type 0 where
+record Whole (limits : Limits) (x : Conversation) : Type 0 where
   last : List ℕ
   all : RepliesToAll x last
   is : IsLast limits x.rest last
 
-whole : (limits : Limits) (x : Exchange) (at_end rose : Type 0) (end : SessionEnd) → EndsSo limits x at_end rose end → end ≢ WriteFault → Whole limits x
+whole : (limits : Limits) (x : Conversation) (at_end rose : Type 0) (end : SessionEnd) → EndsSo limits x at_end rose end → end ≢ WriteFault → Whole limits x
 whole limits x at_end rose Ended h other = record { last = []; all = h.0; is = inl (refl, h.3) }
 whole limits x at_end rose (Cut place) h other = record { last = []; all = h.0; is = inl (refl, h.3) }
-whole limits x at_end rose (Framing place reason) h other = record { last = framing_text; all = h.0; is = inr (refl, h.1, reason, h.2) }
+whole limits x at_end rose (Framing place reason) h other = record { last = framing_text; all = h.0; is = inr (refl, h.1.at, reason, h.1.breaks) }
 whole limits x at_end rose ReadFault h other = record { last = []; all = h.0; is = inl (refl, h.1) }
 whole limits x at_end rose WriteFault h other = absurd (other refl)
 
@@ -121,7 +121,7 @@ OneBreak = (limits : Limits) (bytes : List ℕ) (place other : ℕ) (reason seco
     → Broken limits bytes place reason → Broken limits bytes other second → (place ≡ other) × (reason ≡ second)
 
 -- a session and the one framing of its bytes
-abbrev of_transcript : (t : Transcript) → List (List Segment) → List ℕ → Exchange
+abbrev of_transcript : (t : Transcript) → List (List Segment) → List ℕ → Conversation
 of_transcript t messages rest = record { read = t.read; messages = messages; rest = rest; pairs = t.pairs; written = t.written }
 
 -- the framing of two sessions is one
@@ -158,26 +158,26 @@ same_written only limits one other h safe good same =
     first.all.wrote ∙ (ap (λ (w : List ℕ). w ++ first.last) same ∙ (ap (λ (w : List ℕ). texts_of other.pairs ++ w) last ∙ sym second.all.wrote))
 
 -- two ends over one rest
-ends_alike : OneBreak → (limits : Limits) (x y : Exchange) (P Q R S : Type 0) (one other : SessionEnd) → x.rest ≡ y.rest → x.read ≡ y.read
+ends_alike : OneBreak → (limits : Limits) (x y : Conversation) (P Q R S : Type 0) (one other : SessionEnd) → x.rest ≡ y.rest → x.read ≡ y.read
     → EndsSo limits x P R one → EndsSo limits y Q S other → IsFaultless one → IsFaultless other → one ≡ other
 ends_alike once limits x y P Q R S Ended Ended rest read h k a b = refl
 ends_alike once limits x y P Q R S Ended (Cut p) rest read h k a b =
     absurd (k.2 (subst (λ (w : List ℕ). AllByRecursion IsWhite w) rest h.2))
 ends_alike once limits x y P Q R S Ended (Framing p r) rest read h k a b =
-    absurd (h.3 k.1 r (subst (λ (w : List ℕ). Broken limits w k.1 r) (sym rest) k.2))
+    absurd (h.3 k.1.at r (subst (λ (w : List ℕ). Broken limits w k.1.at r) (sym rest) k.1.breaks))
 ends_alike once limits x y P Q R S (Cut p) Ended rest read h k a b =
     absurd (h.2 (subst (λ (w : List ℕ). AllByRecursion IsWhite w) (sym rest) k.2))
 ends_alike once limits x y P Q R S (Cut p) (Cut q) rest read h k a b =
     ap (λ (n : ℕ). Cut n) (h.4 ∙ (ap (λ (w : List ℕ). saturated (length w)) read ∙ sym k.4))
 ends_alike once limits x y P Q R S (Cut p) (Framing q r) rest read h k a b =
-    absurd (h.3 k.1 r (subst (λ (w : List ℕ). Broken limits w k.1 r) (sym rest) k.2))
+    absurd (h.3 k.1.at r (subst (λ (w : List ℕ). Broken limits w k.1.at r) (sym rest) k.1.breaks))
 ends_alike once limits x y P Q R S (Framing p r) Ended rest read h k a b =
-    absurd (k.3 h.1 r (subst (λ (w : List ℕ). Broken limits w h.1 r) rest h.2))
+    absurd (k.3 h.1.at r (subst (λ (w : List ℕ). Broken limits w h.1.at r) rest h.1.breaks))
 ends_alike once limits x y P Q R S (Framing p r) (Cut q) rest read h k a b =
-    absurd (k.3 h.1 r (subst (λ (w : List ℕ). Broken limits w h.1 r) rest h.2))
+    absurd (k.3 h.1.at r (subst (λ (w : List ℕ). Broken limits w h.1.at r) rest h.1.breaks))
 ends_alike once limits x y P Q R S (Framing p r) (Framing q s) rest read h k a b =
-    let one = once limits y.rest h.1 k.1 r s (subst (λ (w : List ℕ). Broken limits w h.1 r) rest h.2) k.2 in
-    let place : p ≡ q = omega (arith, h.5, k.5, h.4, k.4, one.0, ap length rest, ap length read) in
+    let one = once limits y.rest h.1.at k.1.at r s (subst (λ (w : List ℕ). Broken limits w h.1.at r) rest h.1.breaks) k.1.breaks in
+    let place : p ≡ q = omega (arith, h.1.is, k.1.is, h.1.all, k.1.all, one.0, ap length rest, ap length read) in
     ap (λ (n : ℕ). Framing n r) place ∙ ap (λ (w : Reason). Framing q w) one.1
 ends_alike once limits x y P Q R S ReadFault other rest read h k a b = absurd (a.0 refl)
 ends_alike once limits x y P Q R S WriteFault other rest read h k a b = absurd (a.1 refl)
@@ -191,11 +191,11 @@ same_end only once limits one other h safe good =
     one.end other.end (framed_alike only limits one other h).1 h.bytes h.first.ends h.second.ends safe good
 
 -- The second session ended at a failed write.
-failed : (limits : Limits) (x : Exchange) (P R : Type 0) (end : SessionEnd) → EndsSo limits x P R end → end ≡ WriteFault → ReplyFailed x ⊎ FramingFailed limits x
+failed : (limits : Limits) (x : Conversation) (P R : Type 0) (end : SessionEnd) → EndsSo limits x P R end → end ≡ WriteFault → ReplyFailed x ⊎ FramingFailed limits x
 failed limits x P R end h e = (subst (λ (w : SessionEnd). EndsSo limits x P R w) e h).1
 
 -- the messages with a reply, and later ones
-later_of : (limits : Limits) (x : Exchange) → ReplyFailed x ⊎ FramingFailed limits x → (later : List (List Segment)) × (x.messages ≡ messages_of x.pairs ++ later)
+later_of : (limits : Limits) (x : Conversation) → ReplyFailed x ⊎ FramingFailed limits x → (later : List (List Segment)) × (x.messages ≡ messages_of x.pairs ++ later)
 later_of limits x (inl reply) = (reply.later, reply.each)
 later_of limits x (inr framing) = ([], sym framing.all.each ∙ sym (append-nil (messages_of x.pairs)))
 
@@ -232,7 +232,7 @@ reply_lacks n before text more last =
     ∙ append_assoc (before ++ take n text) (drop n text) (more ++ last))
 
 -- what a session with a failed write lacks
-lacking_of : (limits : Limits) (x y : Exchange) (more : List Pair) → x.messages ≡ y.messages → x.rest ≡ y.rest → Whole limits x
+lacking_of : (limits : Limits) (x y : Conversation) (more : List Pair) → x.messages ≡ y.messages → x.rest ≡ y.rest → Whole limits x
     → ReplyFailed y ⊎ FramingFailed limits y → x.pairs ≡ y.pairs ++ more → (lacking : List ℕ) × (x.written ≡ y.written ++ lacking)
 lacking_of limits x y more messages rest first (inl reply) are =
     let texts : texts_of x.pairs ≡ (texts_of reply.before ++ reply.last.text) ++ texts_of more =
@@ -264,7 +264,7 @@ written_prefix only limits one other more h safe fault are =
     alike.0 alike.1 (first_whole limits one other h safe) (failed limits _ _ _ other.end h.second.ends fault) are
 
 -- nothing is left unread by a session that read all
-none_unread : (limits : Limits) (x : Exchange) (unread : List ℕ) (R : Type 0) (end : SessionEnd) → EndsSo limits x (unread ≡ []) R end → ReadsAll end → unread ≡ []
+none_unread : (limits : Limits) (x : Conversation) (unread : List ℕ) (R : Type 0) (end : SessionEnd) → EndsSo limits x (unread ≡ []) R end → ReadsAll end → unread ≡ []
 none_unread limits x unread R Ended h all = h.1
 none_unread limits x unread R (Cut place) h all = h.1
 none_unread limits x unread R (Framing place reason) h all = absurd all

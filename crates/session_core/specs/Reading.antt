@@ -1,22 +1,12 @@
 -- What a reader takes from a link and feeds to a decoder. This project's own.
-use Rattle.std.specs.Prelude.{◌≡◌, ◌+◌, ◌-◌, ◌^◌, ℕ, min, List, Option, [], ◌++◌, length}
+use Rattle.std.specs.Prelude.{◌≡◌, ℕ, List, Option, [], ◌++◌, length}
 use Rattle.std.specs.Io.KnownBytes.{Appends, Consumes, IsAtEnd}
-use Rattle.doip_segment.specs.Decoding.{Decoding, Took, IsStanding, EndsBetween, Frames, outcome_of}
+use Rattle.doip_segment.specs.Decoding.{Decoding, Took, IsStanding, EndsBetween, Feeds, Frames}
 use Rattle.doip_segment.specs.declared.outcome.Step.{Step}
 use Rattle.doip_segment.specs.declared.outcome.Step.TheVariants as steps
 use Rattle.session_core.specs.Report.{Report}
 use Rattle.session_core.specs.declared.reader.Next.{Next}
 use Rattle.session_core.specs.declared.reader.Next.TheVariants.{Message, Ended, Cut, Framing, ReadFault}
-
--- What feeding no byte more to the decoder would return: a message, a fault, or that more bytes are needed.
-abbrev pub outcome : Decoding → Step
-outcome d = outcome_of d.reading.phase d.taken
-
--- The decoder took these bytes more.
-pub record Feeds (fed : List ℕ) (old new : Decoding) : Type 0 where
-  pub limits : new.limits ≡ old.limits
-  pub took : (came : List ℕ) → Took old came → Took new (came ++ fed)
-  pub place : new.taken ≡ min (old.taken + length fed) (2 ^ 64 - 1)
 
 -- The decoder took a prefix of what the reader held, and the reader holds the rest.
 pub record FeedsHeld (held_old held_new : List ℕ) (old new : Decoding) : Type 0 where
@@ -30,7 +20,7 @@ pub record FramesHeld (step : Step) (held_old held_new : List ℕ) (old new : De
   pub split : held_old ≡ fed ++ held_new
   pub feeds : Feeds fed old new
   pub frames : (came : List ℕ) → Took old came
-      → Frames old.limits came (fed ++ held_new) (length fed) step new.reading.segments
+      → Frames old.limits came (fed ++ held_new) (length fed) step new
 
 -- what the decoder reports at each result
 abbrev pub step_of : Next → Step
@@ -58,13 +48,13 @@ pub record Flows (step : Step) (old new : Stage) : Type 0 where
   pub split : old.held ++ gave ≡ fed ++ new.held
   pub feeds : Feeds fed old.decoder new.decoder
   pub frames : (came : List ℕ) → Took old.decoder came
-      → Frames old.decoder.limits came (fed ++ new.held) (length fed) step new.decoder.reading.segments
+      → Frames old.decoder.limits came (fed ++ new.held) (length fed) step new.decoder
 
 -- The link is at its end, the decoder has taken all that it gave, and has neither a finished message nor a fault.
 pub record IsSpent (held : List ℕ) (left : Option (List ℕ)) (decoder : Decoding) : Type 0 where
   pub nothing_held : held ≡ []
   pub at_end : IsAtEnd left
-  pub none : outcome decoder ≡ steps.More
+  pub none : decoder.standing ≡ steps.More
 
 -- What each result of `next` says of the reader, the link and the decoder.
 abbrev pub Means : Next → List ℕ → Option (List ℕ) → Decoding → Type 0

@@ -1,5 +1,5 @@
 -- One session of a link: what was read, what was replied, and how it ended. This project's own.
-use Rattle.std.specs.Prelude.{◌≡◌, ◌+◌, ◌-◌, ◌^◌, ◌⊎◌, ℕ, min, List, [], ◌∷◌, ◌++◌, length, take, None, Some, codes}
+use Rattle.std.specs.Prelude.{◌≡◌, ◌⊎◌, ℕ, List, [], ◌∷◌, ◌++◌, length, take, Some}
 use Rattle.std.specs.List.{AllByRecursion}
 use Rattle.std.specs.Io.KnownBytes.{IsAtEnd}
 use Rattle.link_core.specs.Causes.{Rose}
@@ -7,28 +7,20 @@ use Rattle.doip_segment.specs.declared.outcome.Limits.{Limits}
 use Rattle.doip_segment.specs.declared.outcome.Reason.{Reason}
 use Rattle.doip_segment.specs.Segments.{Segment}
 use Rattle.doip_segment.specs.Grammar.{IsWhite}
-use Rattle.doip_segment.specs.Framing.{Framed, Broken}
-use Rattle.doip_message.specs.declared.response.Status.TheVariants.{Invalid}
-use Rattle.doip_message.specs.Reply.{refusal, reply_text}
+use Rattle.doip_segment.specs.Framing.{Framed, Broken, BreaksSession, IsUnbroken, saturated}
+use Rattle.doip_message.specs.Fixed.{framing_reply}
+use Rattle.doip_message.specs.Reply.{reply_text}
 use Rattle.session_core.specs.Pairs.{Pair, messages_of, texts_of}
 use Rattle.session_core.specs.Report.{Report, Moves}
 use Rattle.session_core.specs.declared.end.SessionEnd.{SessionEnd}
 use Rattle.session_core.specs.declared.end.SessionEnd.TheVariants.{Ended, Cut, Framing, ReadFault, WriteFault}
 
--- a place as a number of 64 bits reports it: at most the greatest such number
-abbrev pub saturated : ℕ → ℕ
-saturated place = min place (2 ^ 64 - 1)
-
 -- the last text of a session whose bytes frame no message
 abbrev pub framing_text : List ℕ
-framing_text = reply_text (refusal None Invalid (codes "framing fault"))
-
--- the bytes break nowhere
-abbrev pub IsUnbroken : Limits → List ℕ → Type 0
-IsUnbroken limits bytes = (place : ℕ) (reason : Reason) → Broken limits bytes place reason → ⊥
+framing_text = reply_text framing_reply
 
 -- What a session read, the messages that frame it and the rest, which begins with none; its replies, and what it wrote.
-pub record Exchange : Type 0 where
+pub record Conversation : Type 0 where
   pub read : List ℕ
   pub messages : List (List Segment)
   pub rest : List ℕ
@@ -36,13 +28,13 @@ pub record Exchange : Type 0 where
   pub written : List ℕ
 
 -- Each message has its reply, in order. The texts of the replies were written, and then this last text.
-pub record RepliesToAll (x : Exchange) (last : List ℕ) : Type 0 where
+pub record RepliesToAll (x : Conversation) (last : List ℕ) : Type 0 where
   pub each : messages_of x.pairs ≡ x.messages
   pub wrote : x.written ≡ texts_of x.pairs ++ last
 
 -- The write of a reply failed: the texts of the replies were written, and the last of them may lack a suffix.
 -- Later messages have no reply.
-pub record ReplyFailed (x : Exchange) : Type 0 where
+pub record ReplyFailed (x : Conversation) : Type 0 where
   pub before : List Pair
   pub last : Pair
   pub count : ℕ
@@ -52,7 +44,7 @@ pub record ReplyFailed (x : Exchange) : Type 0 where
   pub wrote : x.written ≡ texts_of before ++ take count last.text
 
 -- The write of the framing text failed: all replies were written, and the framing text may lack a suffix.
-pub record FramingFailed (limits : Limits) (x : Exchange) : Type 0 where
+pub record FramingFailed (limits : Limits) (x : Conversation) : Type 0 where
   pub place : ℕ
   pub reason : Reason
   pub count : ℕ
@@ -60,16 +52,14 @@ pub record FramingFailed (limits : Limits) (x : Exchange) : Type 0 where
   pub all : RepliesToAll x (take count framing_text)
 
 -- What holds at each end of a session: `at_end` says that its link is at its end, and `rose` that the link had a fault.
-abbrev pub EndsSo : Limits → Exchange → Type 0 → Type 0 → SessionEnd → Type 0
+abbrev pub EndsSo : Limits → Conversation → Type 0 → Type 0 → SessionEnd → Type 0
 EndsSo limits x at_end rose Ended =
     RepliesToAll x [] × at_end × AllByRecursion IsWhite x.rest × IsUnbroken limits x.rest
 EndsSo limits x at_end rose (Cut place) =
     RepliesToAll x [] × at_end × ¬ AllByRecursion IsWhite x.rest × IsUnbroken limits x.rest
     × (place ≡ saturated (length x.read))
 EndsSo limits x at_end rose (Framing place reason) =
-    RepliesToAll x framing_text
-    × (p : ℕ) × Broken limits x.rest p reason
-    × (q : ℕ) × (q + length x.rest ≡ length x.read) × (place ≡ saturated (q + p))
+    RepliesToAll x framing_text × BreaksSession limits x.read x.rest place reason
 EndsSo limits x at_end rose ReadFault =
     RepliesToAll x [] × IsUnbroken limits x.rest × rose
 EndsSo limits x at_end rose WriteFault =
@@ -97,11 +87,11 @@ pub record Session (limits : Limits) (t : Transcript) : Type 0 where
 
 -- The same for any link, also one that reports no bytes: its pairs are new, and the link gave and took the bytes.
 pub record Served (limits : Limits) (old new : List Pair) (before after : Report) (end : SessionEnd) : Type 0 where
-  pub exchange : Exchange
-  pub pairs : new ≡ old ++ exchange.pairs
-  pub moved : Moves before after exchange.read exchange.written
-  pub framed : Framed limits exchange.read exchange.messages exchange.rest
-  pub ends : EndsSo limits exchange (IsAtEnd after.left) (Rose before.faults after.faults) end
+  pub conversation : Conversation
+  pub pairs : new ≡ old ++ conversation.pairs
+  pub moved : Moves before after conversation.read conversation.written
+  pub framed : Framed limits conversation.read conversation.messages conversation.rest
+  pub ends : EndsSo limits conversation (IsAtEnd after.left) (Rose before.faults after.faults) end
 
 -- The transcript of a session on a link that reported the bytes that were left to read when it began.
 pub record IsTranscript (old new : List Pair) (before after : Report) (end : SessionEnd) (t : Transcript) : Type 0 where

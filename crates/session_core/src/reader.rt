@@ -3,7 +3,8 @@ ghost use Rattle.std.specs.Prelude.{◌≡◌, ◌≤◌, ◌<◌, ◌⊎◌, []
 ghost use Rattle.std.specs.Io.KnownBytes.{Keeps, Appends, Consumes, IsAtEnd};
 ghost use Rattle.link_core.specs.Causes.{HasCause, Rose};
 ghost use Rattle.link_core.specs.Link.{Spends};
-ghost use Rattle.session_core.specs.Reading.{MatchesEnd, outcome};
+ghost use Rattle.doip_segment.specs.Decoding.{IsPlaced};
+ghost use Rattle.session_core.specs.Reading.{MatchesEnd};
 
 use doip_segment::{Decoder, End, Reason, Step};
 use link_core::{Failed, Link};
@@ -73,7 +74,8 @@ impl Reader {
     // Feeds the decoder a prefix of what the reader holds: all of it, unless a message or a fault comes first.
     fn feed_held(&mut self, decoder: &mut Decoder) -> Step
         ensures fed { FramesHeld result self.old self.new decoder.old decoder.new }
-        ensures outcome { result ≡ outcome decoder.new }
+        ensures outcome { result ≡ decoder.new.standing }
+        ensures place { IsPlaced result decoder.new.taken }
         ensures more { result ≡ Step.More → self.new ≡ [] }
         ensures bound { length self.new ≤ 65536 }
     {

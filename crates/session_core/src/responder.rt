@@ -40,5 +40,5 @@ pub trait Responder {
         ensures fixed { fixed self.new ≡ fixed self.old }
         ensures decoder { result.0 ≡ decoder }
         ensures answered { answered self.new ≡ answered self.old
-            ++ pair decoder.reading.segments (text_of result.1.items result.2) ∷ [] };
+            ++ pair decoder.segments (text_of result.1.items result.2) ∷ [] };
 }

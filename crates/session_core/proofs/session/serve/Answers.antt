@@ -28,12 +28,12 @@ loop-responder-preserved g c =
     let written = rw c.in_default.is at c.say_reply.ensures.written in
     let text = text_of c.respond-back.result.1.items c.respond-back.result.2 in
     record {
-      served = serves_on _ _ _ (pair c.next.new.decoder.reading.segments text) _ (report_of g.L.Link c.say_reply.new.link)
+      served = serves_on _ _ _ (pair c.next.new.decoder.segments text) _ (report_of g.L.Link c.say_reply.new.link)
           (stage c.next.new.self (report_of g.L.Link c.next.new.link) c.next.new.decoder) _
           (turned _ _ _ _ text text _ (report_of g.L.Link c.say_reply.new.link) _ _ c.respond-back.ensures.answered
           c.loop-responder.invariant.served c.in-Message.ensures.flow c.in-Message.ensures.written c.in-Message.ensures.later
           (record { taken = c.say_reply.ensures.taken; left = c.say_reply.ensures.left; written = written; later = c.say_reply.ensures.cause.later }))
-          (c.clear.ensures.limits ∙ ap (λ (d : Decoding). d.limits) same) (c.clear.ensures.stood stood).1 (c.clear.ensures.taken ∙ ap (λ (d : Decoding). d.taken) same);
+          (c.clear.ensures.limits ∙ ap (λ (d : Decoding). d.limits) same) (c.clear.ensures.dropped stood).1 (c.clear.ensures.taken ∙ ap (λ (d : Decoding). d.taken) same);
       closed = c.say_reply.ensures.closed ∙ (c.in-Message.ensures.closed ∙ c.loop-responder.invariant.closed);
       fixed = c.respond-back.ensures.fixed ∙ c.loop-responder.invariant.fixed;
       ready = c.respond-back.ensures.ready;
@@ -44,7 +44,7 @@ returns-in-Err-clause-session g c =
     let written = rw c.in-Err.is at c.say_reply.ensures.written in
     let cause = rw c.in-Err.is at c.say_reply.ensures.cause.failed in
     let text = text_of c.respond-back.result.1.items c.respond-back.result.2 in
-    reply_failed _ _ _ (pair c.next.new.decoder.reading.segments text) written.0 _ (report_of g.L.Link c.next.new.link) _
+    reply_failed _ _ _ (pair c.next.new.decoder.segments text) written.0 _ (report_of g.L.Link c.next.new.link) _
     (stage c.next.new.self (report_of g.L.Link c.next.new.link) c.next.new.decoder) c.each_stream_has_one_framing.ensures.some
     (turned _ _ _ _ text (take written.0 text) _ (report_of g.L.Link c.say_reply.new.link) _ _ c.respond-back.ensures.answered
     c.loop-responder.invariant.served c.in-Message.ensures.flow c.in-Message.ensures.written c.in-Message.ensures.later

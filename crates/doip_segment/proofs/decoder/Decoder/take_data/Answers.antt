@@ -1,7 +1,7 @@
 use Rattle.std.proofs.Common.{◌≡◌, ◌+◌, ◌≤◌, length, ap, ◌∙◌, subst, arith}
 use Rattle.doip_segment.specs.declared.phase.Phase.TheVariants.{Data}
 use Rattle.doip_segment.specs.Machine.{IsInRange}
-use Rattle.doip_segment.specs.Framing.{told}
+use Rattle.doip_segment.specs.Framing.{saturated}
 use Rattle.doip_segment.specs.Decoding.{Decoding}
 use Rattle.doip_segment.proofs.RunLemmas.{reading_of, data_goes}
 use Rattle.doip_segment.proofs.decoder.Decoder.take_data.Goals as goal
@@ -22,5 +22,5 @@ returns-clause-advances c =
       limits = ap (λ (v : Decoding). v.limits) c.self.view_is;
       reading = rw (c.append.ensures.segments, c.append.ensures.pending, c.phase_in_data-self-inside.ensures, ← c.self.view_is) goes;
       count = ap (λ (v : Decoding). v.reading.count + window) c.self.view_is;
-      taken = c.saturating_add-self-inside.ensures ∙ ap (λ (v : Decoding). told (v.taken + window)) c.self.view_is;
+      taken = c.saturating_add-self-inside.ensures ∙ ap (λ (v : Decoding). saturated (v.taken + window)) c.self.view_is;
     }

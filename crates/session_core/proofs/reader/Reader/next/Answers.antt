@@ -2,7 +2,6 @@ use Rattle.std.proofs.Common.{◌≡◌, ◌<◌, [], arith, refl, subst, inl, i
 use Rattle.std.proofs.lemmas.Grind.{common_steps}
 use Rattle.std.proofs.KnownBytes.{Keeps-refl, Keeps-trans}
 use Rattle.session_core.proofs.Flow.{nothing_passes, flows_on, flows_in, flows_still, nothing_fed, spends_on, ends_more}
-use Rattle.session_core.proofs.Outcomes.{fault_place}
 use Rattle.doip_segment.specs.declared.outcome.Step.{Step}
 use Rattle.session_core.specs.Reading.{Flows, stage}
 use Rattle.session_core.specs.Report.{report_of}
@@ -26,7 +25,7 @@ pub returns-in-Fault-clause-flow : goal.returns-in-Fault-clause-flow
 returns-in-Fault-clause-flow g c = flows_on _ _ _ _ _ c.loop-place.invariant.passed c.in-Fault.ensures.fed
 
 pub returns-in-Fault-clause-means : goal.returns-in-Fault-clause-means
-returns-in-Fault-clause-means g c = fault_place c.feed_held.new.decoder _ _ c.in-Fault.ensures.outcome
+returns-in-Fault-clause-means g c = c.in-Fault.ensures.place
 
 pub returns-in-Message-clause-spends : goal.returns-in-Message-clause-spends
 returns-in-Message-clause-spends g c = λ _. spends_on _ _ _ _ _ _ _ _ _ c.loop-place.invariant.spends c.in-Message.ensures.fed
