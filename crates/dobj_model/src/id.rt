@@ -6,7 +6,7 @@ use doip_json::Str;
 use std::alloc::{AllocError, Global};
 use std::marker::Model;
 
-/// The most bytes that a name has.
+/// The most bytes of a name.
 const LONGEST: usize = 255;
 
 /// An identifier, seen as its text of 1 to 255 bytes.
@@ -27,7 +27,7 @@ impl Model for Id {
 }
 
 impl Id {
-    /// The identifier that the text spells, `None` exactly where it has no byte or more than 255.
+    /// The identifier that the text spells, `None` exactly when it has no byte or more than 255.
     pub fn of(alloc: Global, text: &str) -> Result<Option<Id>, AllocError>
         ensures { IfOk result (IsNameOf text.now) }
     {

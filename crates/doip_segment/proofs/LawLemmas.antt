@@ -111,7 +111,7 @@ pub record Begins (limits : Limits) (bytes : List ℕ) : Type 0 where
   pub is : bytes ≡ prefix ++ after
   pub spelt : Spelt limits prefix message
 
-never_done : (p : Phase) → is_done p ≡ false → (after : List ℕ) → (is_done p ≡ true) ⊎ (after ≡ []) → after ≡ []
+pub never_done : (p : Phase) → is_done p ≡ false → (after : List ℕ) → (is_done p ≡ true) ⊎ (after ≡ []) → after ≡ []
 never_done p live after (inl done) = absurd (let h : false ≡ true = sym live ∙ done in cc)
 never_done p live after (inr none) = none
 

@@ -13,3 +13,4 @@ pub mod FeedLemmas
 pub mod CanonicalLemmas
 pub mod OutcomeLemmas
 pub mod SessionLemmas
+pub mod StayLemmas

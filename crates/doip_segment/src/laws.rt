@@ -33,6 +33,16 @@ pub fn each_stream_breaks_once()
         → (place ≡ other) × (reason ≡ second) }
 {}
 
+/// A session whose bytes break keeps its messages, its fault and that fault's place, whatever bytes follow.
+pub fn what_breaks_stays_broken()
+    ensures framed { (limits : Limits) (bytes more : List ℕ) (messages : List (List Segment)) (rest : List ℕ)
+        (place : ℕ) (reason : Reason) → Framed limits bytes messages rest → Broken limits rest place reason
+        → Framed limits (bytes ++ more) messages (rest ++ more) }
+    ensures broken { (limits : Limits) (bytes more : List ℕ) (messages : List (List Segment)) (rest : List ℕ)
+        (place : ℕ) (reason : Reason) → Framed limits bytes messages rest → Broken limits rest place reason
+        → Broken limits (rest ++ more) place reason }
+{}
+
 /// What the encoder writes is a spelling of the message.
 pub fn canonical_is_a_spelling()
     ensures { (message : List Segment) → AreEncodable message → IsSpelling (canonical message) message }

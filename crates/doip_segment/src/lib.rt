@@ -29,8 +29,8 @@ pub use encoder::{encode, is_plain};
 pub use kind::Kind;
 pub use laws::{
     canonical_is_a_spelling, each_stream_breaks_once, each_stream_has_one_framing,
-    no_spelling_begins_another, pieces_do_not_matter, what_is_written_is_read,
-    what_stands_is_what_came,
+    no_spelling_begins_another, pieces_do_not_matter, what_breaks_stays_broken,
+    what_is_written_is_read, what_stands_is_what_came,
 };
 pub use message::Message;
 pub use outcome::{End, Limits, Reason, Step};

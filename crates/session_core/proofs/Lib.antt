@@ -5,3 +5,4 @@ pub mod Reports
 pub mod Framings
 pub mod Sessions
 pub mod Transcripts
+pub mod OneInputLemmas

@@ -4,3 +4,4 @@ pub mod Pairs
 pub mod Report
 pub mod Session
 pub mod Cuts
+pub mod OneInput

@@ -14,6 +14,7 @@
 
 mod end;
 mod laws;
+mod one_input;
 mod reader;
 mod responder;
 mod saying;
@@ -23,6 +24,7 @@ mod tests;
 
 pub use end::SessionEnd;
 pub use laws::{a_session_that_reports, cuts_do_not_matter};
+pub use one_input::one_input_gives_one_session;
 pub use reader::{Next, Reader};
 pub use responder::{Reply, Responder};
 pub use saying::{WriteFault, say};
