@@ -1,6 +1,6 @@
 //! Who hands out the objects of the outside.
 ghost use Rattle.std.specs.Prelude.{◌≡◌, ◌-◌, ◌≤◌, ◌^◌, ℕ, List, Option, IfOk, IsErrOf};
-ghost use Rattle.link_core.specs.Causes.{Rose, Counts};
+ghost use Rattle.base_core.specs.Causes.{Rose, Counts};
 ghost use Rattle.link_core.specs.Host.{CountsOk, HandsOut, IsFresh};
 
 use crate::Link;

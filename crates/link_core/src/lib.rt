@@ -20,8 +20,9 @@ mod sink;
 #[cfg(test)]
 mod tests;
 
+pub use base_core::Failed;
 pub use host::{Host, HostFault};
-pub use link::{Failed, Link};
+pub use link::Link;
 pub use memory_host::MemoryHost;
 pub use memory_link::MemoryLink;
 pub use memory_sink::MemorySink;

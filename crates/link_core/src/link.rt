@@ -2,12 +2,10 @@
 ghost use Rattle.std.specs.Prelude.{◌≡◌, ◌≤◌, ◌^◌, ℕ, List, Option, Bool, true};
 ghost use Rattle.std.specs.Io.{ReadsAtMost};
 ghost use Rattle.std.specs.Io.KnownBytes.{Keeps, ReadConsumes, WriteAppends};
-ghost use Rattle.link_core.specs.Causes.{HasCause};
+ghost use Rattle.base_core.specs.Causes.{HasCause};
 ghost use Rattle.link_core.specs.Link.{ReadGives, Takes, AppendsPrefix, Spends};
 
-/// The outside did not do what was asked of it. A count of faults has risen.
-#[derive(Clone, Copy, Debug, PartialEq, Eq)]
-pub struct Failed;
+use base_core::Failed;
 
 /// A stream both ways: a console, a socket, or bytes in memory.
 ///

@@ -1,10 +1,11 @@
 //! A host over links in memory.
 ghost use Rattle.std.specs.Prelude.{◌≡◌, ◌-◌, ◌≤◌, ◌^◌, ◌↔◌, ◌++◌, [], ◌∷◌, Some, IfOk, OnOk, OnErr, IsErr, IsErrOf};
-ghost use Rattle.link_core.specs.Causes.{Rose, Counts};
+ghost use Rattle.base_core.specs.Causes.{Rose, Counts};
 ghost use Rattle.link_core.specs.Host.{CountsOk, HandsOut, IsFresh};
 
 use crate::script::is_listed;
 use crate::{Host, HostFault, MemoryLink};
+use base_core::counted;
 use std::alloc::{AllocError, Global};
 use std::collections::VecDeque;
 
@@ -93,7 +94,7 @@ impl Host for MemoryHost {
         let listed = is_listed(&self.failing, self.console_calls);
         self.console_calls = self.console_calls.saturating_add(1);
         if listed || self.links == u64::MAX {
-            self.faults = self.faults.saturating_add(1);
+            self.faults = counted(self.faults);
             return Err(HostFault::Failed);
         }
         match self.consoles.pop_front() {
@@ -102,7 +103,7 @@ impl Host for MemoryHost {
                 Ok(link.afresh())
             }
             None => {
-                self.faults = self.faults.saturating_add(1);
+                self.faults = counted(self.faults);
                 Err(HostFault::Failed)
             }
         }

@@ -2,11 +2,12 @@
 ghost use Rattle.std.specs.Prelude.{◌≡◌, ◌≤◌, ◌⊎◌, ◌^◌, ◌↔◌, vec_len, length, min, [], false, Some, IsErr, IfOk, OnOk, OnErr};
 ghost use Rattle.std.specs.Io.{ReadsAtMost};
 ghost use Rattle.std.specs.Io.KnownBytes.{Keeps, ReadConsumes};
-ghost use Rattle.link_core.specs.Causes.{HasCause, Rose};
+ghost use Rattle.base_core.specs.Causes.{HasCause, Rose};
 ghost use Rattle.link_core.specs.Link.{ReadGives, Takes, AppendsPrefix, Spends};
 
+use crate::Link;
 use crate::script::{is_listed, listed_length};
-use crate::{Failed, Link};
+use base_core::{Failed, counted};
 use std::alloc::{AllocError, Global};
 
 /// A link whose reads give the bytes that it was made with and whose writes go into a record.
@@ -154,7 +155,7 @@ impl Link for MemoryLink {
         let listed = is_listed(&self.failing, self.calls);
         self.calls = self.calls.saturating_add(1);
         if listed {
-            self.faults = self.faults.saturating_add(1);
+            self.faults = counted(self.faults);
             return Err(Failed);
         }
         let room = into.len().min(self.bytes.len() - self.given);
@@ -185,12 +186,12 @@ impl Link for MemoryLink {
         let count = listed_length(&self.write_lengths, self.writes, piece.len());
         self.writes = self.writes.saturating_add(1);
         if listed || (count == 0 && !piece.is_empty()) {
-            self.faults = self.faults.saturating_add(1);
+            self.faults = counted(self.faults);
             return Err(Failed);
         }
         if self.written.extend_from_slice(&piece[..count]).is_err() {
-            self.starved = self.starved.saturating_add(1);
-            self.faults = self.faults.saturating_add(1);
+            self.starved = counted(self.starved);
+            self.faults = counted(self.faults);
             return Err(Failed);
         }
         Ok(count)

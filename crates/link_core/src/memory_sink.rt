@@ -1,10 +1,11 @@
 //! A sink into memory.
 ghost use Rattle.std.specs.Prelude.{◌≡◌, ◌⊎◌, [], Some, IfOk, OnOk, OnErr};
-ghost use Rattle.link_core.specs.Causes.{HasCause, Rose};
+ghost use Rattle.base_core.specs.Causes.{HasCause, Rose};
 ghost use Rattle.link_core.specs.Link.{Takes, AppendsPrefix};
 
+use crate::Sink;
 use crate::script::{is_listed, listed_length};
-use crate::{Failed, Sink};
+use base_core::{Failed, counted};
 use std::alloc::Global;
 
 /// A sink whose writes go into a record.
@@ -80,12 +81,12 @@ impl Sink for MemorySink {
         let count = listed_length(&self.lengths, self.writes, piece.len());
         self.writes = self.writes.saturating_add(1);
         if listed || (count == 0 && !piece.is_empty()) {
-            self.faults = self.faults.saturating_add(1);
+            self.faults = counted(self.faults);
             return Err(Failed);
         }
         if self.written.extend_from_slice(&piece[..count]).is_err() {
-            self.starved = self.starved.saturating_add(1);
-            self.faults = self.faults.saturating_add(1);
+            self.starved = counted(self.starved);
+            self.faults = counted(self.faults);
             return Err(Failed);
         }
         Ok(count)

@@ -1,9 +1,9 @@
 //! A stream that is only written.
 ghost use Rattle.std.specs.Prelude.{ℕ, List, Option};
-ghost use Rattle.link_core.specs.Causes.{HasCause};
+ghost use Rattle.base_core.specs.Causes.{HasCause};
 ghost use Rattle.link_core.specs.Link.{Takes, AppendsPrefix};
 
-use crate::Failed;
+use base_core::Failed;
 
 /// A stream that is only written: standard output, or bytes in memory.
 pub trait Sink {

@@ -2,6 +2,7 @@
 ghost use Rattle.std.specs.Prelude.{None};
 
 use crate::console::ConsoleLink;
+use base_core::counted;
 use link_core::{Host, HostFault};
 use std::io::{Stdin, Stdout};
 
@@ -42,7 +43,7 @@ impl Host for RealHost {
     fn console(&mut self) -> Result<ConsoleLink, HostFault> {
         self.console_calls = self.console_calls.saturating_add(1);
         if self.links == u64::MAX {
-            self.faults = self.faults.saturating_add(1);
+            self.faults = counted(self.faults);
             return Err(HostFault::Failed);
         }
         self.links += 1;

@@ -2,7 +2,7 @@
 use Rattle.std.specs.Prelude.{◌≡◌, ◌+◌, ◌⊎◌, ℕ, min, List, [], ◌∷◌, Option, None, Some}
 use Rattle.std.specs.Option.{ForSome}
 use Rattle.link_core.specs.declared.link.Link.{Ghosts}
-use Rattle.link_core.specs.Causes.{Rose, Counts}
+use Rattle.base_core.specs.Causes.{Rose, Counts}
 use Rattle.link_core.specs.Host.{IsFresh, IsNew}
 use Rattle.doip_segment.specs.declared.outcome.Limits.{Limits}
 use Rattle.session_core.specs.declared.end.SessionEnd.{SessionEnd}

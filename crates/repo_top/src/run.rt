@@ -1,6 +1,6 @@
 //! The top call.
 ghost use Rattle.std.specs.Prelude.{◌≡◌, ◌≤◌, ◌⊎◌, [], min, option_map, IfOk, Some, None};
-ghost use Rattle.link_core.specs.Causes.{Rose};
+ghost use Rattle.base_core.specs.Causes.{Rose};
 ghost use Rattle.doip_segment.specs.Decoding.{Took};
 ghost use Rattle.session_core.specs.Report.{report_of};
 ghost use Rattle.repo_step.specs.Setting.{setting_of};

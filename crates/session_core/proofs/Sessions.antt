@@ -2,7 +2,7 @@
 use Rattle.std.proofs.Common.{◌≡◌, ◌≤◌, ◌<◌, ◌+◌, ◌*◌, ◌⊎◌, inl, inr, ℕ, List, [], ◌∷◌, ◌++◌, length, take, refl, sym, ap, ◌∙◌, subst, arith, append_assoc, append-nil, length-append, zero-add}
 use Rattle.std.proofs.Math.Seq.{take-append_seam}
 use Rattle.std.specs.Io.KnownBytes.{Keeps}
-use Rattle.link_core.specs.Causes.{Rose}
+use Rattle.base_core.specs.Causes.{Rose}
 use Rattle.doip_segment.specs.declared.outcome.Limits.{Limits}
 use Rattle.doip_segment.specs.declared.outcome.Reason.{Reason}
 use Rattle.doip_segment.specs.declared.outcome.Step.{Step}

@@ -2,7 +2,7 @@
 use Rattle.std.proofs.Common.{◌≡◌, ◌≢◌, ◌⊎◌, inl, inr, ℕ, List, Option, None, Some, [], ◌∷◌, ◌++◌, length, take, drop, refl, sym, ap, ◌∙◌, subst, arith, append_assoc, append-nil, take-append-drop}
 use Rattle.std.specs.List.{AllByRecursion}
 use Rattle.std.specs.Io.KnownBytes.{Appends, Consumes, IsAtEnd}
-use Rattle.link_core.specs.Causes.{Rose}
+use Rattle.base_core.specs.Causes.{Rose}
 use Rattle.doip_segment.specs.declared.outcome.Limits.{Limits}
 use Rattle.doip_segment.specs.declared.outcome.Reason.{Reason}
 use Rattle.doip_segment.specs.Segments.{Segment}

@@ -2,7 +2,7 @@
 use Rattle.std.specs.Prelude.{◌≡◌, ◌⊎◌, ℕ, List, [], ◌∷◌, ◌++◌, length, take, Some}
 use Rattle.std.specs.List.{AllByRecursion}
 use Rattle.std.specs.Io.KnownBytes.{IsAtEnd}
-use Rattle.link_core.specs.Causes.{Rose}
+use Rattle.base_core.specs.Causes.{Rose}
 use Rattle.doip_segment.specs.declared.outcome.Limits.{Limits}
 use Rattle.doip_segment.specs.declared.outcome.Reason.{Reason}
 use Rattle.doip_segment.specs.Segments.{Segment}

@@ -1,7 +1,7 @@
 //! The messages of a link.
 ghost use Rattle.std.specs.Prelude.{◌≡◌, ◌≤◌, ◌<◌, ◌⊎◌, [], length, IfOk, OnErr, Ok};
 ghost use Rattle.std.specs.Io.KnownBytes.{Keeps, Appends, Consumes, IsAtEnd};
-ghost use Rattle.link_core.specs.Causes.{HasCause, Rose};
+ghost use Rattle.base_core.specs.Causes.{HasCause, Rose};
 ghost use Rattle.link_core.specs.Link.{Spends};
 ghost use Rattle.doip_segment.specs.Decoding.{IsPlaced};
 ghost use Rattle.session_core.specs.Reading.{MatchesEnd};

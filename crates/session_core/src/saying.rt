@@ -1,7 +1,7 @@
 //! Writing bytes on a link.
 ghost use Rattle.std.specs.Prelude.{◌≡◌, ◌≤◌};
 ghost use Rattle.std.specs.Io.KnownBytes.{Keeps};
-ghost use Rattle.link_core.specs.Causes.{HasCause};
+ghost use Rattle.base_core.specs.Causes.{HasCause};
 ghost use Rattle.session_core.specs.Saying.{Says};
 
 use link_core::{Failed, Link};

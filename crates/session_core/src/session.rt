@@ -1,7 +1,7 @@
 //! The loop of a session.
 ghost use Rattle.std.specs.Prelude.{◌≡◌, ◌++◌, ◌∷◌, [], ◌≤◌};
 ghost use Rattle.std.specs.Io.KnownBytes.{Keeps};
-ghost use Rattle.link_core.specs.Causes.{HasCause};
+ghost use Rattle.base_core.specs.Causes.{HasCause};
 ghost use Rattle.doip_segment.specs.Decoding.{Took};
 ghost use Rattle.session_core.specs.Saying.{Says};
 ghost use Rattle.session_core.specs.Pairs.{text_of};

@@ -2,7 +2,7 @@
 ghost use Rattle.std.specs.Prelude.{◌≡◌, ◌≤◌, ◌-◌, ◌^◌, None};
 ghost use Rattle.std.specs.Io.{ReadsAtMost};
 ghost use Rattle.std.specs.Io.KnownBytes.{Keeps, ReadConsumes};
-ghost use Rattle.link_core.specs.Causes.{HasCause};
+ghost use Rattle.base_core.specs.Causes.{HasCause};
 ghost use Rattle.link_core.specs.Link.{ReadGives, Takes, AppendsFront, Spends};
 
 use link_core::{Failed, Link};
