@@ -3,7 +3,11 @@ ghost use Rattle.std.specs.Prelude.{◌≡◌, ◌≤◌, ◌↔◌, ℕ, IfSome
 ghost use Rattle.repo_top.specs.Command.{AreArgumentsOf, IsCommand, IsService, prefix_of, address_of, port_of, request_limit};
 ghost use Rattle.repo_top.specs.Taking.{HasTaken, Refuses, Takes, command_in};
 
-use crate::Words;
+use base_core::Items;
+use doip_json::Str;
+
+/// The arguments of the program, seen as the list of their texts.
+pub type Words = Items<Str>;
 
 /// The most bytes that a service's identifier has.
 const LONGEST_NAME: usize = 255;

@@ -14,11 +14,10 @@ mod outcome;
 mod run;
 #[cfg(test)]
 mod tests;
-mod words;
 
+pub use command::Words;
 pub use laws::outcomes_give_the_bytes;
 pub use outcome::{Note, Ran};
 pub use repo_step::Past;
 pub use run::run_plain;
 pub use session_core::SessionEnd;
-pub use words::Words;
