@@ -36,17 +36,14 @@ impl ConsoleLink {
 }
 
 impl Link for ConsoleLink {
-    ghost taken = { λ _. None };
-
-    ghost left = { λ _. None };
-
-    ghost written = { λ _. None };
-
-    ghost closed = { λ c. c.closed };
-
-    ghost faults = { λ c. c.faults };
-
-    ghost reads = { λ c. c.reads };
+    ghost state = { λ c. record {
+      taken = None;
+      left = None;
+      written = None;
+      closed = c.closed;
+      faults = c.faults;
+      reads = c.reads;
+    } };
 
     fn read(&mut self, into: &mut [u8]) -> Result<usize, Failed> {
         if self.reads == 0 {

@@ -32,13 +32,12 @@ impl RealHost {
 impl Host for RealHost {
     type Link = ConsoleLink;
 
-    ghost consoles = { λ _. None };
-
-    ghost console_calls = { λ h. h.console_calls };
-
-    ghost links = { λ h. h.links };
-
-    ghost faults = { λ h. h.faults };
+    ghost state = { λ h. record {
+      consoles = None;
+      console_calls = h.console_calls;
+      links = h.links;
+      faults = h.faults;
+    } };
 
     fn console(&mut self) -> Result<ConsoleLink, HostFault> {
         self.console_calls = self.console_calls.saturating_add(1);

@@ -11,7 +11,7 @@ use Rattle.doip_segment.specs.Framing.{Spelt, IsUnfinished, Broken, NothingSpelt
 use Rattle.doip_segment.specs.Decoding.{Decoding, Took, Uses, Feeds, Frames, Reports}
 use Rattle.session_core.specs.declared.reader.Next.{Next}
 use Rattle.session_core.specs.declared.reader.Next.TheVariants as nexts
-use Rattle.session_core.specs.Report.{Report}
+use Rattle.link_core.specs.Link.{LinkState}
 use Rattle.session_core.specs.Reading.{FeedsHeld, FramesHeld, Flows, Stage, stage, MatchesEnd, step_of}
 
 -- what a buffer holds after n more bytes
@@ -111,7 +111,7 @@ flows_on step s0 s1 h2 c pass more =
     }
 
 -- the link gives bytes after what flowed
-pub flows_in : (step : Step) (s0 s1 : Stage) (h2 : List ℕ) (r2 : Report) → Flows step s0 s1 → s1.held ≡ [] → Appends s1.link.taken r2.taken h2 → Consumes s1.link.left r2.left h2
+pub flows_in : (step : Step) (s0 s1 : Stage) (h2 : List ℕ) (r2 : LinkState) → Flows step s0 s1 → s1.held ≡ [] → Appends s1.link.taken r2.taken h2 → Consumes s1.link.left r2.left h2
     → Passes s0 (stage h2 r2 s1.decoder)
 flows_in step s0 s1 h2 r2 flow empty taken left =
     record {
@@ -124,7 +124,7 @@ flows_in step s0 s1 h2 r2 flow empty taken left =
     }
 
 -- nothing more came
-pub flows_still : (step : Step) (s0 s1 : Stage) (h2 : List ℕ) (r2 : Report) → Flows step s0 s1 → s1.held ≡ [] → h2 ≡ [] → Appends s1.link.taken r2.taken h2 → Consumes s1.link.left r2.left h2
+pub flows_still : (step : Step) (s0 s1 : Stage) (h2 : List ℕ) (r2 : LinkState) → Flows step s0 s1 → s1.held ≡ [] → h2 ≡ [] → Appends s1.link.taken r2.taken h2 → Consumes s1.link.left r2.left h2
     → Flows step s0 (stage h2 r2 s1.decoder)
 unfolding flows_in
 flows_still step s0 s1 h2 r2 flow empty none taken left =

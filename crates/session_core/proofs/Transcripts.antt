@@ -8,7 +8,7 @@ use Rattle.doip_segment.specs.declared.outcome.Reason.{Reason}
 use Rattle.doip_segment.specs.Segments.{Segment}
 use Rattle.doip_segment.specs.Grammar.{IsWhite}
 use Rattle.doip_segment.specs.Framing.{Framed, Broken, saturated, IsUnbroken}
-use Rattle.session_core.specs.Report.{Report}
+use Rattle.link_core.specs.Link.{LinkState}
 use Rattle.session_core.specs.declared.end.SessionEnd.{SessionEnd}
 use Rattle.session_core.specs.declared.end.SessionEnd.TheVariants.{Ended, Cut, Framing, ReadFault, WriteFault}
 use Rattle.session_core.specs.Pairs.{Pair, messages_of, texts_of}
@@ -50,7 +50,7 @@ ends_as limits x P Q rose ReadFault f h = h
 ends_as limits x P Q rose WriteFault f h = h
 
 -- what `serve` says of a session is its transcript
-pub transcribed : (limits : Limits) (old new : List Pair) (before after : Report) (end : SessionEnd) (input : List ℕ) → before.left ≡ Some input
+pub transcribed : (limits : Limits) (old new : List Pair) (before after : LinkState) (end : SessionEnd) (input : List ℕ) → before.left ≡ Some input
     → Served limits old new before after end → (t : Transcript) × Session limits t × IsTranscript old new before after end t
 transcribed limits old new before after end input known s =
     let rest = rest_known before.left after.left s.conversation.read input s.moved.left known in

@@ -1,6 +1,5 @@
 pub mod Reading
 pub mod Saying
 pub mod Pairs
-pub mod Report
 pub mod Session
 pub mod Cuts
