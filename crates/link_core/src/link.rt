@@ -5,8 +5,8 @@ use base_core::Failed;
 
 /// A stream both ways: a console, a socket, or bytes in memory.
 ///
-/// A link need not report its bytes: the forms in memory do, terminals and sockets don't. A clause on bytes holds if they
-/// are reported, and a clause on causes always holds.
+/// A link need not report its bytes: the forms in memory do, terminals and sockets don't. A clause on bytes holds if
+/// they are reported, and a clause on causes always holds.
 pub trait Link {
     /// What contracts see of the link: its bytes, whether it is closed, its count of faults, its number of reads.
     ghost state: { Self → LinkState };

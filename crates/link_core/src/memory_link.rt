@@ -8,8 +8,8 @@ use std::alloc::{AllocError, Global};
 
 /// A link whose reads give the bytes that it was made with and whose writes go into a record.
 ///
-/// It reports all that it holds. A call returns `Failed` exactly when its number is on the list of calls to fail, when a
-/// listed write of a piece with bytes takes nothing, and when out of memory for the record, which `starved` counts.
+/// It reports all that it holds. A call returns `Failed` exactly when its number is on the list of calls to fail, when
+/// a listed write of a piece with bytes takes nothing, and when out of memory for the record, which `starved` counts.
 #[derive(Drop)]
 pub struct MemoryLink {
     bytes: Vec<u8>,

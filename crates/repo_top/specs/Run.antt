@@ -36,7 +36,8 @@ pub record IsServed (limits : Limits) (pairs : List Pair) (before after : LinkSt
 
 -- A session of a run: the repository is set up as the arguments say, the history is that of one session in lane 0 with
 -- number 0, and its pairs were served on the link.
-pub record RanSession (words : List (List ℕ)) (past : List Entry) (before after : LinkState) (end : SessionEnd) : Type 0 where
+pub record RanSession (words : List (List ℕ)) (past : List Entry) (before after : LinkState)
+    (end : SessionEnd) : Type 0 where
   pub setting : Setting
   pub limits : Limits
   pub set_up : IsSetUp words setting limits
@@ -81,8 +82,8 @@ abbrev pub note_at : SessionEnd → Note
 note_at Ended = notes.Nothing
 note_at end = notes.End end
 
--- The status of a command: that of its session's end, 7 only if the link's count of faults rose; before any session 4 when
--- out of memory, or 9 if the host's count rose.
+-- The status of a command: that of its session's end, 7 only if the link's count of faults rose; before any session 4
+-- when out of memory, or 9 if the host's count rose.
 abbrev pub IsStatus : {T : Type 0} → (T → LinkState) → ℕ → ℕ → ℕ → Note → Option T → Option SessionEnd → Type 0
 IsStatus state before now status note (Some link) (Some end) =
     (status ≡ status_at end) × (note ≡ note_at end) × (status ≡ 7 → Rose 0 (state link).faults)
@@ -91,7 +92,8 @@ IsStatus state before now status note None None =
 IsStatus state before now status note _ _ = ⊥
 
 -- Each status has its cause: 2 exactly when the command line is invalid.
-abbrev pub HasStatus : {T : Type 0} → (T → LinkState) → List (List ℕ) → ℕ → ℕ → ℕ → Note → Option T → Option SessionEnd → Type 0
+abbrev pub HasStatus : {T : Type 0} → (T → LinkState) → List (List ℕ) → ℕ → ℕ → ℕ → Note → Option T → Option SessionEnd
+    → Type 0
 HasStatus state words before now status note link end =
     ((status ≡ 2) × (note ≡ notes.Words) × ¬ IsCommand words × (link ≡ None) × (end ≡ None))
     ⊎ (IsCommand words × IsStatus state before now status note link end)

@@ -89,7 +89,8 @@ fn serve_link<L: Link>(alloc: Global, prepared: Prepared, link: L) -> (L, Sessio
     requires took { Took prepared.decoder [] }
     requires place { prepared.decoder.taken ≡ 0 }
     ensures past { IsPast (setting_of prepared.config) 0 0 result.2 }
-    ensures served { IsServed prepared.decoder.limits (session_pairs (setting_of prepared.config) first_state 0 0 result.2)
+    ensures served { IsServed prepared.decoder.limits
+        (session_pairs (setting_of prepared.config) first_state 0 0 result.2)
         (L.state link) (L.state result.0) result.1 }
 {
     a_session_that_reports();
@@ -147,15 +148,15 @@ fn status_of(end: SessionEnd) -> (u8, Note)
 /// | 4 | out of memory before the session | `Memory` |
 /// | 0 | otherwise | `End` after a cut or a framing fault, else `Nothing` |
 ///
-/// The arguments are `answer SERVICE [--address A] [--port N] [--request N]`: a service of 1 to 255 bytes, of which at most
-/// 200 come before the first `/`, and then options in any order, each at most once; a port from 1 to 65,535, a limit on the
-/// bytes of a request from 64 to 16,777,216. It replies to each message on the host's console, in order. An invalid
-/// command line leaves the host as it was.
+/// The arguments are `answer SERVICE [--address A] [--port N] [--request N]`: a service of 1 to 255 bytes, of which at
+/// most 200 come before the first `/`, and then options in any order, each at most once; a port from 1 to 65,535, a
+/// limit on the bytes of a request from 64 to 16,777,216. It replies to each message on the host's console, in order.
+/// An invalid command line leaves the host as it was.
 pub fn run_plain<H: Host>(alloc: Global, words: &Words, host: &mut H) -> Ran<H>
 where
     H::Link: Drop,
-    // However the input is cut into reads, the messages are those that the grammar defines, and what is written are, in
-    // order, the texts of the replies of one history of the one-thread repository, or a prefix of them if the link failed.
+    // However the input is cut into reads, the messages are those that the grammar defines. Written are, in order, the
+    // texts of the replies of one history of the one-thread repository, or a prefix of them if the link failed.
     ensures session { Runs H.Link.state words.now result.past (option_map (λ s. s.value) result.begun) result.link
         result.end }
     ensures fresh { BeginsFresh H.Link.state (option_map (λ s. s.value) result.begun) }

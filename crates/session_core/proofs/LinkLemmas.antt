@@ -1,7 +1,7 @@
 -- What calls do to a link, one after another.
-use Rattle.std.proofs.Common.{◌≡◌, ◌≤◌, ℕ, List, [], ◌++◌, refl, ◌∙◌, arith}
+use Rattle.std.proofs.Common.{◌≤◌, ℕ, List, [], ◌++◌, refl, ◌∙◌, arith}
 use Rattle.std.proofs.KnownBytes.{Keeps-refl, Keeps-trans, Appends-nil, Appends-trans, Appends-kept, Consumes-nil, Consumes-trans, Consumes-kept}
-use Rattle.std.specs.Io.KnownBytes.{Appends, Consumes, Keeps}
+use Rattle.std.specs.Io.KnownBytes.{Appends, Consumes}
 use Rattle.link_core.specs.Link.{LinkState, KeepsInput}
 use Rattle.session_core.specs.Reading.{OnlyReads}
 use Rattle.session_core.specs.Session.{Moves}

@@ -22,7 +22,8 @@ use Rattle.session_core.proofs.LinkLemmas.{Writes, moves_nothing, moves_read, mo
 -- the texts of one pair more
 texts_more : (ps : List Pair) (p : Pair) → texts_of (ps ++ p ∷ []) ≡ texts_of ps ++ p.text
 texts_more [] p = append-nil p.text
-texts_more (q ∷ ps) p = ap (λ (w : List ℕ). q.text ++ w) (texts_more ps p) ∙ sym (append_assoc q.text (texts_of ps) p.text)
+texts_more (q ∷ ps) p = ap (λ (w : List ℕ). q.text ++ w) (texts_more ps p)
+    ∙ sym (append_assoc q.text (texts_of ps) p.text)
 
 -- the messages of one pair more
 messages_more : (ps : List Pair) (p : Pair) → messages_of (ps ++ p ∷ []) ≡ messages_of ps ++ p.message ∷ []
@@ -55,12 +56,14 @@ served_nothing old s none took place = record {
 }
 
 -- bytes held and given, and the same bytes fed and held
-along : (before held gave fed rest : List ℕ) → held ++ gave ≡ fed ++ rest → (before ++ held) ++ gave ≡ (before ++ fed) ++ rest
+along : (before held gave fed rest : List ℕ) → held ++ gave ≡ fed ++ rest
+    → (before ++ held) ++ gave ≡ (before ++ fed) ++ rest
 along before held gave fed rest split =
     append_assoc before held gave ∙ ap (λ (w : List ℕ). before ++ w) split ∙ sym (append_assoc before fed rest)
 
 -- a call of `next`: the link gave bytes, and nothing was written
-read_on : {step : Step} (limits : Limits) (old new : List Pair) (t0 : LinkState) (s1 s2 : Stage) (h : HasServed limits old new t0 s1) (f : Flows step s1 s2)
+read_on : {step : Step} (limits : Limits) (old new : List Pair) (t0 : LinkState) (s1 s2 : Stage)
+    (h : HasServed limits old new t0 s1) (f : Flows step s1 s2)
     → OnlyReads s1.link s2.link → Moves t0 s2.link ((h.spelt ++ f.fed) ++ s2.held) (texts_of h.pairs)
 read_on limits old new t0 s1 s2 h f only =
     subst (λ (w : List ℕ). Moves t0 s2.link w (texts_of h.pairs)) (along h.spelt s1.held f.gave f.fed s2.held f.split)
@@ -70,10 +73,12 @@ read_on limits old new t0 s1 s2 h f only =
 spelt_next : (limits outer : Limits) (fed rest : List ℕ) (new : Decoding) → limits ≡ outer
     → Frames limits [] (fed ++ rest) (length fed) steps.Message new → Spelt outer fed new.segments
 spelt_next limits outer fed rest new same h =
-    subst (λ (l : Limits). Spelt l fed new.segments) same (subst (λ (w : List ℕ). Spelt limits w new.segments) (take-append_seam fed rest) h)
+    subst (λ (l : Limits). Spelt l fed new.segments) same
+    (subst (λ (w : List ℕ). Spelt limits w new.segments) (take-append_seam fed rest) h)
 
 -- A message more has its reply, of which these bytes were written.
-pub record Turned (limits : Limits) (old new : List Pair) (last : Pair) (wrote : List ℕ) (before after : LinkState) (s : Stage) : Type 0 where
+pub record Turned (limits : Limits) (old new : List Pair) (last : Pair) (wrote : List ℕ) (before after : LinkState)
+    (s : Stage) : Type 0 where
   pub pairs : List Pair
   pub spelt : List ℕ
   pub are : new ≡ old ++ (pairs ++ last ∷ [])
@@ -95,7 +100,8 @@ turned limits old es next text wrote t0 t3 s1 s2 is served flow only writes =
       are = is ∙ (ap (λ (w : List Pair). w ++ p ∷ []) served.are ∙ append_assoc old served.pairs (p ∷ []));
       moved = moves_written t0 s2.link t3 ((served.spelt ++ flow.fed) ++ s2.held) (texts_of served.pairs) wrote
           (read_on limits old es t0 s1 s2 served flow only) writes;
-      spells = subst (λ (ms : List (List Segment)). Spells limits (served.spelt ++ flow.fed) ms) (sym (messages_more served.pairs p))
+      spells = subst (λ (ms : List (List Segment)). Spells limits (served.spelt ++ flow.fed) ms)
+          (sym (messages_more served.pairs p))
           (spells_more limits served.spelt flow.fed (messages_of served.pairs) s2.decoder.segments served.spells
           (spelt_next s1.decoder.limits limits flow.fed s2.held s2.decoder served.bound (flow.frames [] served.took)));
       bound = flow.feeds.limits ∙ served.bound;
@@ -104,14 +110,16 @@ turned limits old es next text wrote t0 t3 s1 s2 is served flow only writes =
 
 -- the reply was written, and the message is dropped
 pub serves_on : (limits : Limits) (old next : List Pair) (last : Pair) (t0 t3 : LinkState) (s2 : Stage) (d3 : Decoding)
-    → Turned limits old next last last.text t0 t3 s2 → d3.limits ≡ s2.decoder.limits → Took d3 [] → d3.taken ≡ s2.decoder.taken
+    → Turned limits old next last last.text t0 t3 s2 → d3.limits ≡ s2.decoder.limits → Took d3 []
+    → d3.taken ≡ s2.decoder.taken
     → HasServed limits old next t0 (stage s2.held t3 d3)
 serves_on limits old next last t0 t3 s2 d3 turn same took place =
     record {
       pairs = turn.pairs ++ last ∷ [];
       spelt = turn.spelt;
       are = turn.are;
-      moved = subst (λ (w : List ℕ). Moves t0 t3 (turn.spelt ++ s2.held) w) (sym (texts_more turn.pairs last)) turn.moved;
+      moved = subst (λ (w : List ℕ). Moves t0 t3 (turn.spelt ++ s2.held) w)
+          (sym (texts_more turn.pairs last)) turn.moved;
       spells = turn.spells;
       bound = same ∙ turn.bound;
       took = took;
@@ -120,7 +128,8 @@ serves_on limits old next last t0 t3 s2 d3 turn same took place =
 
 -- the write of a reply failed
 pub reply_failed : (limits : Limits) (old next : List Pair) (last : Pair) (n : ℕ) (t0 t2 t3 : LinkState) (s2 : Stage)
-    → ((limits : Limits) (bytes : List ℕ) → (messages : List (List Segment)) × (rest : List ℕ) × Framed limits bytes messages rest)
+    → ((limits : Limits) (bytes : List ℕ)
+    → (messages : List (List Segment)) × (rest : List ℕ) × Framed limits bytes messages rest)
     → Turned limits old next last (take n last.text) t0 t3 s2 → t0.faults ≤ t2.faults → Rose t2.faults t3.faults
     → Served limits old next t0 t3 WriteFault
 reply_failed limits old next last n t0 t2 t3 s2 framing turn rises rose =
@@ -135,10 +144,19 @@ reply_failed limits old next last n t0 t2 t3 s2 framing turn rises rose =
       };
       pairs = turn.are;
       moved = turn.moved;
-      framed = spells_framed limits turn.spelt s2.held (messages_of (turn.pairs ++ last ∷ [])) after.0 after.1 turn.spells after.2;
+      framed = spells_framed limits turn.spelt s2.held
+          (messages_of (turn.pairs ++ last ∷ [])) after.0 after.1 turn.spells after.2;
       ends = (
         omega (arith, rises, rose),
-        inl (record { before = turn.pairs; last = last; count = n; later = after.0; are = refl; each = refl; wrote = refl }),
+        inl (record {
+          before = turn.pairs;
+          last = last;
+          count = n;
+          later = after.0;
+          are = refl;
+          each = refl;
+          wrote = refl;
+        }),
       );
     }
 
@@ -170,7 +188,8 @@ halts limits old es t0 s1 s2 served flow none only =
       spelt = served.spelt;
       rest = flow.fed;
       are = served.are;
-      moved = subst (λ (w : List ℕ). Moves t0 s2.link w (texts_of served.pairs)) bytes (read_on limits old es t0 s1 s2 served flow only);
+      moved = subst (λ (w : List ℕ). Moves t0 s2.link w (texts_of served.pairs)) bytes
+          (read_on limits old es t0 s1 s2 served flow only);
       framed = spells_rest limits served.spelt flow.fed (messages_of served.pairs) served.spells unfinished.unspelt;
       unbroken = unfinished.unbroken;
       took = flow.feeds.took [] served.took;
@@ -178,11 +197,19 @@ halts limits old es t0 s1 s2 served flow none only =
     }
 
 -- the link's end between messages
-pub ended : (limits : Limits) (old es : List Pair) (t0 t2 : LinkState) (held : List ℕ) (d2 : Decoding) → Halted limits old es t0 t2 d2
-    → IsSpent held t2.left d2 → ((came : List ℕ) → Took d2 came → EndsBetween d2 came) → Served limits old es t0 t2 Ended
+pub ended : (limits : Limits) (old es : List Pair) (t0 t2 : LinkState) (held : List ℕ) (d2 : Decoding)
+    → Halted limits old es t0 t2 d2
+    → IsSpent held t2.left d2 → ((came : List ℕ) → Took d2 came → EndsBetween d2 came)
+    → Served limits old es t0 t2 Ended
 ended limits old es t0 t2 held d2 s spent between =
     record {
-      conversation = record { read = s.spelt ++ s.rest; messages = messages_of s.pairs; rest = s.rest; pairs = s.pairs; written = texts_of s.pairs };
+      conversation = record {
+        read = s.spelt ++ s.rest;
+        messages = messages_of s.pairs;
+        rest = s.rest;
+        pairs = s.pairs;
+        written = texts_of s.pairs;
+      };
       pairs = s.are;
       moved = s.moved;
       framed = s.framed;
@@ -195,12 +222,19 @@ ended limits old es t0 t2 held d2 s spent between =
     }
 
 -- the link's end inside a message
-pub cut : (limits : Limits) (old es : List Pair) (t0 t2 : LinkState) (held : List ℕ) (place : ℕ) (d2 : Decoding) → Halted limits old es t0 t2 d2
+pub cut : (limits : Limits) (old es : List Pair) (t0 t2 : LinkState) (held : List ℕ) (place : ℕ) (d2 : Decoding)
+    → Halted limits old es t0 t2 d2
     → IsSpent held t2.left d2 → place ≡ d2.taken → ((came : List ℕ) → Took d2 came → EndsBetween d2 came → ⊥)
     → Served limits old es t0 t2 (Cut place)
 cut limits old es t0 t2 held place d2 s spent is inside =
     record {
-      conversation = record { read = s.spelt ++ s.rest; messages = messages_of s.pairs; rest = s.rest; pairs = s.pairs; written = texts_of s.pairs };
+      conversation = record {
+        read = s.spelt ++ s.rest;
+        messages = messages_of s.pairs;
+        rest = s.rest;
+        pairs = s.pairs;
+        written = texts_of s.pairs;
+      };
       pairs = s.are;
       moved = s.moved;
       framed = s.framed;
@@ -214,19 +248,31 @@ cut limits old es t0 t2 held place d2 s spent is inside =
     }
 
 -- a read failed
-pub read_failed : (limits : Limits) (old es : List Pair) (t0 t1 t2 : LinkState) (d2 : Decoding) → Halted limits old es t0 t2 d2
+pub read_failed : (limits : Limits) (old es : List Pair) (t0 t1 t2 : LinkState) (d2 : Decoding)
+    → Halted limits old es t0 t2 d2
     → t0.faults ≤ t1.faults → Rose t1.faults t2.faults → Served limits old es t0 t2 ReadFault
 read_failed limits old es t0 t1 t2 d2 s before rose =
     record {
-      conversation = record { read = s.spelt ++ s.rest; messages = messages_of s.pairs; rest = s.rest; pairs = s.pairs; written = texts_of s.pairs };
+      conversation = record {
+        read = s.spelt ++ s.rest;
+        messages = messages_of s.pairs;
+        rest = s.rest;
+        pairs = s.pairs;
+        written = texts_of s.pairs;
+      };
       pairs = s.are;
       moved = s.moved;
       framed = s.framed;
-      ends = (record { each = refl; wrote = sym (append-nil (texts_of s.pairs)) }, s.unbroken, omega (arith, before, rose));
+      ends = (
+        record { each = refl; wrote = sym (append-nil (texts_of s.pairs)) },
+        s.unbroken,
+        omega (arith, before, rose),
+      );
     }
 
 -- The bytes break, and these bytes were written after the replies.
-pub record Breaks (limits : Limits) (old new : List Pair) (before now : LinkState) (place : ℕ) (reason : Reason) (last : List ℕ) : Type 0 where
+pub record Breaks (limits : Limits) (old new : List Pair) (before now : LinkState) (place : ℕ) (reason : Reason)
+    (last : List ℕ) : Type 0 where
   pub pairs : List Pair
   pub spelt : List ℕ
   pub rest : List ℕ
@@ -238,7 +284,8 @@ pub record Breaks (limits : Limits) (old new : List Pair) (before now : LinkStat
   pub at : place ≡ saturated (length spelt + p)
 
 -- a framing fault was read, and the framing text written or a prefix of it
-pub breaks_at : (limits : Limits) (old es : List Pair) (last : List ℕ) (t0 t3 : LinkState) (s1 s2 : Stage) (place : ℕ) (reason : Reason)
+pub breaks_at : (limits : Limits) (old es : List Pair) (last : List ℕ) (t0 t3 : LinkState) (s1 s2 : Stage) (place : ℕ)
+    (reason : Reason)
     → HasServed limits old es t0 s1 → Flows (steps.Fault place reason) s1 s2 → OnlyReads s1.link s2.link
     → Writes s2.link t3 last → place ≡ s2.decoder.taken → Breaks limits old es t0 t3 place reason last
 breaks_at limits old es last t0 t3 s1 s2 place reason served flow only writes is =
@@ -249,13 +296,15 @@ breaks_at limits old es last t0 t3 s1 s2 place reason served flow only writes is
       rest = flow.fed ++ s2.held;
       p = length flow.fed;
       are = served.are;
-      moved = subst (λ (w : List ℕ). Moves t0 t3 w (texts_of served.pairs ++ last)) (append_assoc served.spelt flow.fed s2.held)
+      moved = subst (λ (w : List ℕ). Moves t0 t3 w (texts_of served.pairs ++ last))
+          (append_assoc served.spelt flow.fed s2.held)
           (moves_written t0 s2.link t3 ((served.spelt ++ flow.fed) ++ s2.held) (texts_of served.pairs) last
           (read_on limits old es t0 s1 s2 served flow only) writes);
       framed = spells_rest limits served.spelt (flow.fed ++ s2.held) (messages_of served.pairs) served.spells
           (subst (λ (l : Limits). NothingSpelt l (flow.fed ++ s2.held)) served.bound fault.1);
       breaks = subst (λ (l : Limits). Broken l (flow.fed ++ s2.held) (length flow.fed) reason) served.bound
-          (subst (λ (k : ℕ). Broken s1.decoder.limits (flow.fed ++ s2.held) k reason) (zero-add (length flow.fed)) fault.0);
+          (subst (λ (k : ℕ). Broken s1.decoder.limits (flow.fed ++ s2.held) k reason)
+          (zero-add (length flow.fed)) fault.0);
       at = omega (arith, is, flow.feeds.taken, served.place);
     }
 
@@ -274,7 +323,16 @@ framing_written limits old es t0 t3 place reason b =
       pairs = b.are;
       moved = b.moved;
       framed = b.framed;
-      ends = (record { each = refl; wrote = refl }, record { before = length b.spelt; at = b.p; all = sym (length-append b.spelt b.rest); breaks = b.breaks; is = b.at });
+      ends = (
+        record { each = refl; wrote = refl },
+        record {
+          before = length b.spelt;
+          at = b.p;
+          all = sym (length-append b.spelt b.rest);
+          breaks = b.breaks;
+          is = b.at;
+        },
+      );
     }
 
 -- the write of the framing text failed
@@ -295,7 +353,13 @@ framing_failed limits old es t0 t2 t3 place reason n b before rose =
       framed = b.framed;
       ends = (
         omega (arith, before, rose),
-        inr (record { place = b.p; reason = reason; count = n; breaks = b.breaks; all = record { each = refl; wrote = refl } }),
+        inr (record {
+          place = b.p;
+          reason = reason;
+          count = n;
+          breaks = b.breaks;
+          all = record { each = refl; wrote = refl };
+        }),
       );
     }
 

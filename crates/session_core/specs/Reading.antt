@@ -28,8 +28,8 @@ step_of Message = steps.Message
 step_of (Framing place reason) = steps.Fault place reason
 step_of _ = steps.More
 
--- What a call that only reads leaves of a link: what was written, and whether it is closed. Its faults never fall, and its
--- reads never rise.
+-- What a call that only reads leaves of a link: what was written, and whether it is closed. Its faults never fall, and
+-- its reads never rise.
 pub record OnlyReads (old new : LinkState) : Type 0 where
   pub written : Keeps old.written new.written
   pub closed : new.closed ≡ old.closed

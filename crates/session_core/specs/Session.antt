@@ -101,7 +101,8 @@ pub record Served (limits : Limits) (old new : List Pair) (before after : LinkSt
   pub ends : EndsSo limits conversation (IsAtEnd after.left) (Rose before.faults after.faults) end
 
 -- The transcript of a session on a link that reported the bytes that were left to read when it began.
-pub record IsTranscript (old new : List Pair) (before after : LinkState) (end : SessionEnd) (t : Transcript) : Type 0 where
+pub record IsTranscript (old new : List Pair) (before after : LinkState) (end : SessionEnd)
+    (t : Transcript) : Type 0 where
   pub pairs : new ≡ old ++ t.pairs
   pub input : before.left ≡ Some (t.read ++ t.unread)
   pub left : after.left ≡ Some t.unread

@@ -8,7 +8,8 @@ loop-said-preserved g c =
     let wrote = c.in-Ok.ensures in
     record {
       within = omega (arith, wrote.bound.0, length-drop c.loop-said.said c.args.bytes.now);
-      written = prefix_grows _ _ _ c.loop-said.said c.in-Ok.count c.args.bytes.now c.loop-said.invariant.written wrote.written;
+      written = prefix_grows _ _ _ c.loop-said.said c.in-Ok.count c.args.bytes.now c.loop-said.invariant.written
+          wrote.written;
       input = input_kept_on _ _ _ c.loop-said.invariant.input wrote.input;
       later = omega (arith, wrote.cause.later, c.loop-said.invariant.later);
       closed = wrote.closed ∙ c.loop-said.invariant.closed;

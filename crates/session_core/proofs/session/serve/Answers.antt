@@ -17,7 +17,8 @@ loop-responder-init g c =
 
 pub loop-responder-smaller : goal.loop-responder-smaller
 loop-responder-smaller g c =
-    falls _ _ _ _ _ _ _ (c.in-Message.ensures.spends refl) c.say_reply.ensures.input.reads c.in-Message.ensures.only_reads.reads c.in-Message.ensures.bound
+    falls _ _ _ _ _ _ _ (c.in-Message.ensures.spends refl) c.say_reply.ensures.input.reads
+    c.in-Message.ensures.only_reads.reads c.in-Message.ensures.bound
     c.loop-responder.invariant.served.took c.in-Message.ensures.means
 
 pub loop-responder-preserved : goal.loop-responder-preserved
@@ -32,8 +33,10 @@ loop-responder-preserved g c =
           (turned _ _ _ _ text text _ (g.L.Link.state c.say_reply.new.link) _ _ c.respond-back.ensures.answered
           c.loop-responder.invariant.served c.in-Message.ensures.flow c.in-Message.ensures.only_reads
           (record { input = c.say_reply.ensures.input; written = written; later = c.say_reply.ensures.cause.later }))
-          (c.clear.ensures.limits ∙ ap (λ (d : Decoding). d.limits) same) (c.clear.ensures.dropped stood).1 (c.clear.ensures.taken ∙ ap (λ (d : Decoding). d.taken) same);
-      closed = c.say_reply.ensures.closed ∙ (c.in-Message.ensures.only_reads.closed ∙ c.loop-responder.invariant.closed);
+          (c.clear.ensures.limits ∙ ap (λ (d : Decoding). d.limits) same) (c.clear.ensures.dropped stood).1
+          (c.clear.ensures.taken ∙ ap (λ (d : Decoding). d.taken) same);
+      closed = c.say_reply.ensures.closed
+          ∙ (c.in-Message.ensures.only_reads.closed ∙ c.loop-responder.invariant.closed);
       fixed = c.respond-back.ensures.fixed ∙ c.loop-responder.invariant.fixed;
       ready = c.respond-back.ensures.ready;
     }
@@ -44,8 +47,10 @@ returns-in-Err-clause-session g c =
     let cause = rw c.in-Err.is at c.say_reply.ensures.cause.failed in
     let text = text_of c.respond-back.result.1.items c.respond-back.result.2 in
     reply_failed _ _ _ (pair c.next.new.decoder.segments text) written.0 _ (g.L.Link.state c.next.new.link) _
-    (stage c.next.new.self (g.L.Link.state c.next.new.link) c.next.new.decoder) c.each_stream_has_one_framing.ensures.some
-    (turned _ _ _ _ text (take written.0 text) _ (g.L.Link.state c.say_reply.new.link) _ _ c.respond-back.ensures.answered
+    (stage c.next.new.self (g.L.Link.state c.next.new.link) c.next.new.decoder)
+    c.each_stream_has_one_framing.ensures.some
+    (turned _ _ _ _ text (take written.0 text) _
+    (g.L.Link.state c.say_reply.new.link) _ _ c.respond-back.ensures.answered
     c.loop-responder.invariant.served c.in-Message.ensures.flow c.in-Message.ensures.only_reads
     (record { input = c.say_reply.ensures.input; written = written.2; later = c.say_reply.ensures.cause.later }))
     (omega (arith, c.loop-responder.invariant.served.moved.later, c.in-Message.ensures.only_reads.later)) cause
@@ -72,11 +77,13 @@ returns-in-ReadFault-clause-session g c =
 pub returns-in-Ok-clause-session : goal.returns-in-Ok-clause-session
 returns-in-Ok-clause-session g c =
     framing_written _ _ _ _ _ _ _
-    (breaks_at _ _ _ _ _ (g.L.Link.state c.say.new.link) _ _ _ _ c.loop-responder.invariant.served c.in-Framing.ensures.flow
+    (breaks_at _ _ _ _ _ (g.L.Link.state c.say.new.link) _ _ _ _ c.loop-responder.invariant.served
+    c.in-Framing.ensures.flow
     c.in-Framing.ensures.only_reads
     (record {
       input = c.say.ensures.input;
-      written = subst (λ (w : List ℕ). Appends (g.L.Link.state c.next.new.link).written (g.L.Link.state c.say.new.link).written w)
+      written = subst (λ (w : List ℕ). Appends (g.L.Link.state c.next.new.link).written
+          (g.L.Link.state c.say.new.link).written w)
           c.fixed_texts_are_replies.ensures.framing c.in-Ok.ensures.written;
       later = c.say.ensures.cause.later;
     }) c.in-Framing.ensures.means)
@@ -84,12 +91,15 @@ returns-in-Ok-clause-session g c =
 pub returns-in-Err-say-clause-session : goal.returns-in-Err-say-clause-session
 returns-in-Err-say-clause-session g c =
     framing_failed _ _ _ _ (g.L.Link.state c.next.new.link) _ _ _ c.in-Err-say.ensures.written.0
-    (breaks_at _ _ _ _ _ (g.L.Link.state c.say.new.link) _ _ _ _ c.loop-responder.invariant.served c.in-Framing.ensures.flow
+    (breaks_at _ _ _ _ _ (g.L.Link.state c.say.new.link) _ _ _ _ c.loop-responder.invariant.served
+    c.in-Framing.ensures.flow
     c.in-Framing.ensures.only_reads
     (record {
       input = c.say.ensures.input;
-      written = subst (λ (w : List ℕ). Appends (g.L.Link.state c.next.new.link).written (g.L.Link.state c.say.new.link).written (take c.in-Err-say.ensures.written.0 w))
+      written = subst (λ (w : List ℕ). Appends (g.L.Link.state c.next.new.link).written
+          (g.L.Link.state c.say.new.link).written (take c.in-Err-say.ensures.written.0 w))
           c.fixed_texts_are_replies.ensures.framing c.in-Err-say.ensures.written.2;
       later = c.say.ensures.cause.later;
     }) c.in-Framing.ensures.means)
-    (omega (arith, c.loop-responder.invariant.served.moved.later, c.in-Framing.ensures.only_reads.later)) c.in-Err-say.ensures.cause.failed
+    (omega (arith, c.loop-responder.invariant.served.moved.later, c.in-Framing.ensures.only_reads.later))
+    c.in-Err-say.ensures.cause.failed
