@@ -1,4 +1,3 @@
-pub mod Causes
 pub mod Link
 pub mod Host
 pub mod Memory

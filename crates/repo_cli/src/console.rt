@@ -1,7 +1,8 @@
 //! Standard input and output as one link.
 ghost use Rattle.std.specs.Prelude.{◌≡◌, ◌≤◌, ◌+◌, ◌-◌, ◌^◌, min, None, false};
 
-use link_core::{Failed, Link};
+use base_core::{Failed, counted};
+use link_core::Link;
 use std::io::{Read, Stdin, Stdout, Write};
 
 /// The reads that a console can give bytes by.
@@ -34,30 +35,19 @@ impl ConsoleLink {
     }
 }
 
-// One fault more.
-fn count_fault(faults: &mut u64)
-    ensures counted { faults.new ≡ min (faults.old + 1) (2 ^ 64 - 1) }
-    ensures later { faults.old ≤ faults.new }
-{
-    *faults = faults.saturating_add(1);
-}
-
 impl Link for ConsoleLink {
-    ghost taken = { λ _. None };
-
-    ghost left = { λ _. None };
-
-    ghost written = { λ _. None };
-
-    ghost closed = { λ c. c.closed };
-
-    ghost faults = { λ c. c.faults };
-
-    ghost reads = { λ c. c.reads };
+    ghost state = { λ c. record {
+      taken = None;
+      left = None;
+      written = None;
+      closed = c.closed;
+      faults = c.faults;
+      reads = c.reads;
+    } };
 
     fn read(&mut self, into: &mut [u8]) -> Result<usize, Failed> {
         if self.reads == 0 {
-            count_fault(&mut self.faults);
+            self.faults = counted(self.faults);
             return Err(Failed);
         }
         match self.stdin.read(into) {
@@ -67,7 +57,7 @@ impl Link for ConsoleLink {
                 Ok(count)
             }
             Err(_) => {
-                count_fault(&mut self.faults);
+                self.faults = counted(self.faults);
                 Err(Failed)
             }
         }
@@ -77,13 +67,13 @@ impl Link for ConsoleLink {
         match self.stdout.write(piece) {
             Ok(count) => {
                 if count == 0 && !piece.is_empty() {
-                    count_fault(&mut self.faults);
+                    self.faults = counted(self.faults);
                     return Err(Failed);
                 }
                 Ok(count)
             }
             Err(_) => {
-                count_fault(&mut self.faults);
+                self.faults = counted(self.faults);
                 Err(Failed)
             }
         }

@@ -2,6 +2,7 @@
 ghost use Rattle.std.specs.Prelude.{None};
 
 use crate::console::ConsoleLink;
+use base_core::counted;
 use link_core::{Host, HostFault};
 use std::io::{Stdin, Stdout};
 
@@ -31,18 +32,17 @@ impl RealHost {
 impl Host for RealHost {
     type Link = ConsoleLink;
 
-    ghost consoles = { λ _. None };
-
-    ghost console_calls = { λ h. h.console_calls };
-
-    ghost links = { λ h. h.links };
-
-    ghost faults = { λ h. h.faults };
+    ghost state = { λ h. record {
+      consoles = None;
+      console_calls = h.console_calls;
+      links = h.links;
+      faults = h.faults;
+    } };
 
     fn console(&mut self) -> Result<ConsoleLink, HostFault> {
         self.console_calls = self.console_calls.saturating_add(1);
         if self.links == u64::MAX {
-            self.faults = self.faults.saturating_add(1);
+            self.faults = counted(self.faults);
             return Err(HostFault::Failed);
         }
         self.links += 1;

@@ -28,7 +28,7 @@ struct Invocation {
 // The path and the arguments of the process.
 fn read_invocation(rt: &HostRuntime, alloc: Global) -> io::Result<Invocation> {
     let mut path = Str::of(alloc, "zenkawi")?;
-    let mut arguments = Words::empty(alloc);
+    let mut arguments = Words::new(alloc);
     for (number, argument) in env::args(rt)?.enumerate() {
         if number == 0 {
             path = Str::from_string(argument);

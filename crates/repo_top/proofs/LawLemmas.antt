@@ -22,7 +22,8 @@ own_messages setting state lane session (e ∷ es) all =
     let x : Exchange = exchange_of setting state e in
     let later : List Exchange = exchanges_of setting (is_of lane session) (after setting state e) es in
     ap (λ (b : Bool). messages (if b then x ∷ later else later)) all.0
-    ∙ ap (λ (w : List (List Segment)). e.message ∷ w) (own_messages setting (after setting state e) lane session es all.1)
+    ∙ ap (λ (w : List (List Segment)). e.message ∷ w)
+    (own_messages setting (after setting state e) lane session es all.1)
 
 head_of : {X : Type 0} → X → List X → X
 head_of x [] = x
@@ -36,13 +37,15 @@ cause : List Segment → Outcome → Brought → Cause
 cause m o b = record { message = m; outcome = o; brought = b }
 
 -- entries with the same messages, outcomes and what was brought have the same causes
-pub same_causes : (xs ys : List Entry) → map (λ e. e.message) xs ≡ map (λ e. e.message) ys → map (λ e. e.outcome) xs ≡ map (λ e. e.outcome) ys
+pub same_causes : (xs ys : List Entry) → map (λ e. e.message) xs ≡ map (λ e. e.message) ys
+    → map (λ e. e.outcome) xs ≡ map (λ e. e.outcome) ys
     → map (λ e. e.brought) xs ≡ map (λ e. e.brought) ys → map cause_of xs ≡ map cause_of ys
 unfolding head_of rest_of cause
 same_causes [] [] m o b = refl
 same_causes [] (y ∷ ys) m o b = absurd (cc m)
 same_causes (x ∷ xs) [] m o b = absurd (cc m)
 same_causes (x ∷ xs) (y ∷ ys) m o b =
-    let first : cause_of x ≡ cause_of y = λ i. cause (ap (head_of x.message) m i) (ap (head_of x.outcome) o i) (ap (head_of x.brought) b i) in
+    let first : cause_of x ≡ cause_of y =
+    λ i. cause (ap (head_of x.message) m i) (ap (head_of x.outcome) o i) (ap (head_of x.brought) b i) in
     let others : map cause_of xs ≡ map cause_of ys = same_causes xs ys (ap rest_of m) (ap rest_of o) (ap rest_of b) in
     λ i. first i ∷ others i

@@ -35,7 +35,9 @@ module _ (setting : Setting) (brought : Brought) (state : State) where
       (operation_in asked.properties.operation_id) (is_text asked.properties.target_id setting.service)
   replied (Err fault) = refl
 
-pub can_follow : (setting : Setting) (brought : Brought) (state : State) (message : List Segment) (p : Replied) → p ≡ (step setting brought state message).reply → CanFollow (output_parts p.output)
+pub can_follow : (setting : Setting) (brought : Brought) (state : State) (message : List Segment) (p : Replied)
+    → p ≡ (step setting brought state message).reply → CanFollow (output_parts p.output)
 can_follow setting brought state message p is =
-    let none : output_parts p.output ≡ [] = ap (λ (r : Replied). output_parts r.output) is ∙ replied setting brought state (request message) in
+    let none : output_parts p.output ≡ [] =
+    ap (λ (r : Replied). output_parts r.output) is ∙ replied setting brought state (request message) in
     subst CanFollow (sym none) (tt, omega arith)

@@ -7,7 +7,8 @@ use Rattle.doip_segment.specs.declared.outcome.Limits.{Limits}
 use Rattle.repo_top.specs.Run.{status_at}
 
 -- status 7 comes at a fault of the link alone
-pub rose_at : (limits : Limits) (x : Conversation) (at_end rose : Type 0) (end : SessionEnd) → status_at end ≡ 7 → EndsSo limits x at_end rose end → rose
+pub rose_at : (limits : Limits) (x : Conversation) (at_end rose : Type 0) (end : SessionEnd) → status_at end ≡ 7
+    → EndsSo limits x at_end rose end → rose
 rose_at limits x at_end rose Ended seven h = absurd (omega (arith, seven))
 rose_at limits x at_end rose (Cut place) seven h = absurd (omega (arith, seven))
 rose_at limits x at_end rose (Framing place reason) seven h = absurd (omega (arith, seven))

@@ -1,4 +1,4 @@
--- The arguments of the program as a command. This project's own.
+-- The arguments of the program as a command.
 use Rattle.std.specs.Prelude.{◌≡◌, ◌≤◌, ℕ, List, [], ◌∷◌, length, Option, codes, decimal, nat_eq, flat_map, unwrap_or, option_to_list}
 use Rattle.std.specs.List.{AllByRecursion, before_first}
 use Rattle.dobj_model.specs.Name.{IsName}

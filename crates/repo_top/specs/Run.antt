@@ -1,14 +1,13 @@
--- What a run asks of its host and leaves. This project's own.
+-- What a run asks of its host and leaves.
 use Rattle.std.specs.Prelude.{◌≡◌, ◌+◌, ◌⊎◌, ℕ, min, List, [], ◌∷◌, Option, None, Some}
 use Rattle.std.specs.Option.{ForSome}
-use Rattle.link_core.specs.declared.link.Link.{Ghosts}
-use Rattle.link_core.specs.Causes.{Rose, Counts}
+use Rattle.link_core.specs.Link.{LinkState}
+use Rattle.base_core.specs.Causes.{Rose, Counts}
 use Rattle.link_core.specs.Host.{IsFresh, IsNew}
 use Rattle.doip_segment.specs.declared.outcome.Limits.{Limits}
 use Rattle.session_core.specs.declared.end.SessionEnd.{SessionEnd}
 use Rattle.session_core.specs.declared.end.SessionEnd.TheVariants.{Ended, Cut, Framing, ReadFault, WriteFault}
 use Rattle.session_core.specs.Pairs.{Pair}
-use Rattle.session_core.specs.Report.{Report, report_of}
 use Rattle.session_core.specs.Session.{Session, Served, Transcript, IsTranscript}
 use Rattle.repo_step.specs.Setting.{Setting}
 use Rattle.repo_step.specs.History.{Entry}
@@ -28,16 +27,17 @@ pub record IsSetUp (words : List (List ℕ)) (setting : Setting) (limits : Limit
   pub total : limits.total ≡ request_limit command
   pub json : limits.json ≡ min limits.total 1048576
 
--- Between two reports of its link a session was served, with these pairs. If the link reported at first what was left to
+-- Between two states of its link a session was served, with these pairs. If the link reported at first what was left to
 -- read, it is a session over those bytes.
-pub record IsServed (limits : Limits) (pairs : List Pair) (before after : Report) (end : SessionEnd) : Type 0 where
+pub record IsServed (limits : Limits) (pairs : List Pair) (before after : LinkState) (end : SessionEnd) : Type 0 where
   pub served : Served limits [] pairs before after end
   pub session : (input : List ℕ) → before.left ≡ Some input
       → (t : Transcript) × Session limits t × IsTranscript [] pairs before after end t
 
 -- A session of a run: the repository is set up as the arguments say, the history is that of one session in lane 0 with
 -- number 0, and its pairs were served on the link.
-pub record RanSession (words : List (List ℕ)) (past : List Entry) (before after : Report) (end : SessionEnd) : Type 0 where
+pub record RanSession (words : List (List ℕ)) (past : List Entry) (before after : LinkState)
+    (end : SessionEnd) : Type 0 where
   pub setting : Setting
   pub limits : Limits
   pub set_up : IsSetUp words setting limits
@@ -45,19 +45,20 @@ pub record RanSession (words : List (List ℕ)) (past : List Entry) (before afte
   pub served : IsServed limits (session_pairs setting first_state 0 0 past) before after end
 
 -- A run that was handed a link returns it with the end of its session; another run has no link, no end and no history.
-abbrev pub Runs : {T : Type 0} → Ghosts T → List (List ℕ) → List Entry → Option T → Option T → Option SessionEnd → Type 0
-Runs l words past (Some begun) (Some link) (Some end) = RanSession words past (report_of l begun) (report_of l link) end
-Runs l words past None None None = past ≡ []
-Runs l words past _ _ _ = ⊥
+abbrev pub Runs : {T : Type 0} → (T → LinkState) → List (List ℕ) → List Entry → Option T → Option T → Option SessionEnd
+    → Type 0
+Runs state words past (Some begun) (Some link) (Some end) = RanSession words past (state begun) (state link) end
+Runs state words past None None None = past ≡ []
+Runs state words past _ _ _ = ⊥
 
 -- the link as it was handed out had no fault, nothing was read from it or written on it, and it wasn't closed
-abbrev pub BeginsFresh : {T : Type 0} → Ghosts T → Option T → Type 0
-BeginsFresh l begun = ForSome begun (IsFresh l.faults l.closed l.taken l.written)
+abbrev pub BeginsFresh : {T : Type 0} → (T → LinkState) → Option T → Type 0
+BeginsFresh state begun = ForSome begun (λ link. IsFresh (state link))
 
 -- A host that reports what its links hold hands out the first of them.
-abbrev pub BeginsWithFirst : {T : Type 0} → Ghosts T → Option (List (List ℕ)) → Option T → Type 0
-BeginsWithFirst l consoles begun = (input : List ℕ) (others : List (List ℕ)) → consoles ≡ Some (input ∷ others)
-    → ForSome begun (IsNew l.left l.taken l.written input)
+abbrev pub BeginsWithFirst : {T : Type 0} → (T → LinkState) → Option (List (List ℕ)) → Option T → Type 0
+BeginsWithFirst state consoles begun = (input : List ℕ) (others : List (List ℕ)) → consoles ≡ Some (input ∷ others)
+    → ForSome begun (λ link. IsNew input (state link))
 
 -- a link or nothing, as the host's count of links says
 abbrev pub LinkCounted : {T : Type 0} → ℕ → ℕ → Option T → Type 0
@@ -81,22 +82,23 @@ abbrev pub note_at : SessionEnd → Note
 note_at Ended = notes.Nothing
 note_at end = notes.End end
 
--- The status of a command: that of its session's end, 7 only if the link's count of faults rose; before any session 4 when
--- out of memory, or 9 if the host's count rose.
-abbrev pub IsStatus : {T : Type 0} → (T → ℕ) → ℕ → ℕ → ℕ → Note → Option T → Option SessionEnd → Type 0
-IsStatus faults before now status note (Some link) (Some end) =
-    (status ≡ status_at end) × (note ≡ note_at end) × (status ≡ 7 → Rose 0 (faults link))
-IsStatus faults before now status note None None =
+-- The status of a command: that of its session's end, 7 only if the link's count of faults rose; before any session 4
+-- when out of memory, or 9 if the host's count rose.
+abbrev pub IsStatus : {T : Type 0} → (T → LinkState) → ℕ → ℕ → ℕ → Note → Option T → Option SessionEnd → Type 0
+IsStatus state before now status note (Some link) (Some end) =
+    (status ≡ status_at end) × (note ≡ note_at end) × (status ≡ 7 → Rose 0 (state link).faults)
+IsStatus state before now status note None None =
     ((status ≡ 4) × (note ≡ notes.Memory)) ⊎ ((status ≡ 9) × (note ≡ notes.Host) × Rose before now)
-IsStatus faults before now status note _ _ = ⊥
+IsStatus state before now status note _ _ = ⊥
 
 -- Each status has its cause: 2 exactly when the command line is invalid.
-abbrev pub HasStatus : {T : Type 0} → (T → ℕ) → List (List ℕ) → ℕ → ℕ → ℕ → Note → Option T → Option SessionEnd → Type 0
-HasStatus faults words before now status note link end =
+abbrev pub HasStatus : {T : Type 0} → (T → LinkState) → List (List ℕ) → ℕ → ℕ → ℕ → Note → Option T → Option SessionEnd
+    → Type 0
+HasStatus state words before now status note link end =
     ((status ≡ 2) × (note ≡ notes.Words) × ¬ IsCommand words × (link ≡ None) × (end ≡ None))
-    ⊎ (IsCommand words × IsStatus faults before now status note link end)
+    ⊎ (IsCommand words × IsStatus state before now status note link end)
 
 -- no fault of the link was counted
-abbrev pub IsFaultless : {T : Type 0} → (T → ℕ) → Option T → Type 0
-IsFaultless faults (Some link) = ¬ Rose 0 (faults link)
-IsFaultless faults None = Unit {0}
+abbrev pub IsFaultless : {T : Type 0} → (T → LinkState) → Option T → Type 0
+IsFaultless state (Some link) = ¬ Rose 0 (state link).faults
+IsFaultless state None = Unit {0}

@@ -1,5 +1,5 @@
--- The session of a run without a store: its pairs are the entries of its lane and number, each with the text of its reply.
--- This project's own.
+-- The session of a run without a store: its pairs are the entries of its lane and number, each with the text of its
+-- reply.
 use Rattle.std.specs.Prelude.{◌≡◌, ℕ, List, map}
 use Rattle.std.specs.List.{AllByRecursion}
 use Rattle.doip_segment.specs.Segments.{Segment}

@@ -30,7 +30,8 @@ pub record Takes (old new : Command) (name value : List ℕ) : Type 0 where
 
 -- a name and a value spell no option but one that is there
 abbrev pub Refuses : Command → List ℕ → List ℕ → Type 0
-Refuses old name value = (option : GivenOption) → spelling_of option ≡ name ∷ value ∷ [] → IsInForm option → IsGiven old option
+Refuses old name value =
+    (option : GivenOption) → spelling_of option ≡ name ∷ value ∷ [] → IsInForm option → IsGiven old option
 
 -- The arguments before this place are `answer`, the service and the options of the command.
 pub record HasTaken (words : List (List ℕ)) (place : ℕ) (command : Command) : Type 0 where

@@ -3,7 +3,11 @@ ghost use Rattle.std.specs.Prelude.{◌≡◌, ◌≤◌, ◌↔◌, ℕ, IfSome
 ghost use Rattle.repo_top.specs.Command.{AreArgumentsOf, IsCommand, IsService, prefix_of, address_of, port_of, request_limit};
 ghost use Rattle.repo_top.specs.Taking.{HasTaken, Refuses, Takes, command_in};
 
-use crate::Words;
+use base_core::Items;
+use doip_json::Str;
+
+/// The arguments of the program, seen as the list of their texts.
+pub type Words = Items<Str>;
 
 /// The most bytes that a service's identifier has.
 const LONGEST_NAME: usize = 255;
@@ -118,7 +122,8 @@ fn port_of(text: &str) -> Option<u16>
 
 // Adds the address to the command, unless it has one. Whether it did.
 fn take_address<'a>(arguments: &mut AnswerArguments<'a>, value: &'a str) -> bool
-    ensures taken { IsTrue result → Takes (command_in arguments.old) (command_in arguments.new) (codes "--address") value.now }
+    ensures taken { IsTrue result
+        → Takes (command_in arguments.old) (command_in arguments.new) (codes "--address") value.now }
     ensures refused { IsFalse result → Refuses (command_in arguments.old) (codes "--address") value.now }
 {
     if arguments.address.is_some() {
@@ -130,7 +135,8 @@ fn take_address<'a>(arguments: &mut AnswerArguments<'a>, value: &'a str) -> bool
 
 // Adds the port to the command, unless it has one or the value is none. Whether it did.
 fn take_port(arguments: &mut AnswerArguments<'_>, value: &str) -> bool
-    ensures taken { IsTrue result → Takes (command_in arguments.old) (command_in arguments.new) (codes "--port") value.now }
+    ensures taken { IsTrue result
+        → Takes (command_in arguments.old) (command_in arguments.new) (codes "--port") value.now }
     ensures refused { IsFalse result → Refuses (command_in arguments.old) (codes "--port") value.now }
 {
     if arguments.port.is_some() {
@@ -145,7 +151,8 @@ fn take_port(arguments: &mut AnswerArguments<'_>, value: &str) -> bool
 
 // Adds the limit on requests to the command, unless it has one or the value is none. Whether it did.
 fn take_request(arguments: &mut AnswerArguments<'_>, value: &str) -> bool
-    ensures taken { IsTrue result → Takes (command_in arguments.old) (command_in arguments.new) (codes "--request") value.now }
+    ensures taken { IsTrue result
+        → Takes (command_in arguments.old) (command_in arguments.new) (codes "--request") value.now }
     ensures refused { IsFalse result → Refuses (command_in arguments.old) (codes "--request") value.now }
 {
     if arguments.request.is_some() {
@@ -193,8 +200,8 @@ fn take_options<'a>(arguments: &mut AnswerArguments<'a>, words: &'a Words) -> bo
     true
 }
 
-/// The command of the arguments, `None` exactly when the command line is invalid: `answer SERVICE`, and then pairs of an
-/// option and its value, each option at most once.
+/// The command of the arguments, `None` exactly when the command line is invalid: `answer SERVICE`, and then pairs of
+/// an option and its value, each option at most once.
 pub(crate) fn command_of(words: &Words) -> Option<AnswerArguments<'_>>
     ensures some { IfSome result (λ a. AreArgumentsOf (command_in a) words.now) }
     ensures none { result ≡ None → IsCommand words.now → ⊥ }

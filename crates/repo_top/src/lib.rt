@@ -1,8 +1,8 @@
 //! The program as a library: the arguments, and what each command does with the objects of a host.
 //!
-//! `run_plain` is the top call. It takes the arguments and the host, and returns the exit status, what there is to note, and
-//! the objects that the host handed out. `main` makes a real host and calls it. Read `run_plain` first, and its clause
-//! `session`, which says what one session reads, replies and writes; `specs/Run.antt` has its words.
+//! `run_plain` is the top call. It takes the arguments and the host, and returns the exit status, what there is to
+//! note, and the objects that the host handed out. `main` makes a real host and calls it. Read `run_plain` first, and
+//! its clause `session`, which says what one session reads, replies and writes; `specs/Run.antt` has its definitions.
 //!
 //! A contract sees of `Words` the list of the arguments, and of `Ran::past` the list of the entries of the history.
 #![tactic(auto)]
@@ -14,11 +14,10 @@ mod outcome;
 mod run;
 #[cfg(test)]
 mod tests;
-mod words;
 
+pub use command::Words;
 pub use laws::outcomes_give_the_bytes;
 pub use outcome::{Note, Ran};
 pub use repo_step::Past;
 pub use run::run_plain;
 pub use session_core::SessionEnd;
-pub use words::Words;

@@ -1,8 +1,7 @@
 //! The top call.
 ghost use Rattle.std.specs.Prelude.{◌≡◌, ◌≤◌, ◌⊎◌, [], min, option_map, IfOk, Some, None};
-ghost use Rattle.link_core.specs.Causes.{Rose};
+ghost use Rattle.base_core.specs.Causes.{Rose};
 ghost use Rattle.doip_segment.specs.Decoding.{Took};
-ghost use Rattle.session_core.specs.Report.{report_of};
 ghost use Rattle.repo_step.specs.Setting.{setting_of};
 ghost use Rattle.repo_top.specs.Command.{AreArgumentsOf, IsCommand, IsService, prefix_of, address_of, port_of};
 ghost use Rattle.repo_top.specs.Taking.{command_in};
@@ -90,8 +89,9 @@ fn serve_link<L: Link>(alloc: Global, prepared: Prepared, link: L) -> (L, Sessio
     requires took { Took prepared.decoder [] }
     requires place { prepared.decoder.taken ≡ 0 }
     ensures past { IsPast (setting_of prepared.config) 0 0 result.2 }
-    ensures served { IsServed prepared.decoder.limits (session_pairs (setting_of prepared.config) first_state 0 0 result.2)
-        (report_of L.Link link) (report_of L.Link result.0) result.1 }
+    ensures served { IsServed prepared.decoder.limits
+        (session_pairs (setting_of prepared.config) first_state 0 0 result.2)
+        (L.state link) (L.state result.0) result.1 }
 {
     a_session_that_reports();
     let Prepared {
@@ -148,28 +148,29 @@ fn status_of(end: SessionEnd) -> (u8, Note)
 /// | 4 | out of memory before the session | `Memory` |
 /// | 0 | otherwise | `End` after a cut or a framing fault, else `Nothing` |
 ///
-/// The arguments are `answer SERVICE [--address A] [--port N] [--request N]`: a service of 1 to 255 bytes, of which at most
-/// 200 come before the first `/`, and then options in any order, each at most once; a port from 1 to 65,535, a limit on the
-/// bytes of a request from 64 to 16,777,216. It replies to each message on the host's console, in order. An invalid
-/// command line leaves the host as it was.
+/// The arguments are `answer SERVICE [--address A] [--port N] [--request N]`: a service of 1 to 255 bytes, of which at
+/// most 200 come before the first `/`, and then options in any order, each at most once; a port from 1 to 65,535, a
+/// limit on the bytes of a request from 64 to 16,777,216. It replies to each message on the host's console, in order.
+/// An invalid command line leaves the host as it was.
 pub fn run_plain<H: Host>(alloc: Global, words: &Words, host: &mut H) -> Ran<H>
 where
     H::Link: Drop,
-    // However the input is cut into reads, the messages are those that the grammar defines, and what is written are, in
-    // order, the texts of the replies of one history of the one-thread repository, or a prefix of them if the link failed.
-    ensures session { Runs H.Link.Link words.now result.past (option_map (λ s. s.value) result.begun) result.link result.end }
-    ensures fresh { BeginsFresh H.Link.Link (option_map (λ s. s.value) result.begun) }
-    ensures told { BeginsWithFirst H.Link.Link (H.consoles host.old) (option_map (λ s. s.value) result.begun) }
+    // However the input is cut into reads, the messages are those that the grammar defines. Written are, in order, the
+    // texts of the replies of one history of the one-thread repository, or a prefix of them if the link failed.
+    ensures session { Runs H.Link.state words.now result.past (option_map (λ s. s.value) result.begun) result.link
+        result.end }
+    ensures fresh { BeginsFresh H.Link.state (option_map (λ s. s.value) result.begun) }
+    ensures first { BeginsWithFirst H.Link.state (H.state host.old).consoles (option_map (λ s. s.value) result.begun) }
 
     // Each status has its cause, and if no fault was counted a command has status 0, or 4 when out of memory.
-    ensures status { HasStatus H.Link.faults words.now (H.faults host.old) (H.faults host.new) result.status result.note
-        result.link result.end }
-    ensures complete { IsCommand words.now → ¬ Rose (H.faults host.old) (H.faults host.new)
-        → IsFaultless H.Link.faults result.link → (result.status ≡ 0) ⊎ (result.status ≡ 4) }
+    ensures status { HasStatus H.Link.state words.now (H.state host.old).faults (H.state host.new).faults result.status
+        result.note result.link result.end }
+    ensures complete { IsCommand words.now → ¬ Rose (H.state host.old).faults (H.state host.new).faults
+        → IsFaultless H.Link.state result.link → (result.status ≡ 0) ⊎ (result.status ≡ 4) }
 
     // `console` is called once at most, and what it handed out is returned.
-    ensures link { LinkCounted (H.links host.old) (H.links host.new) result.link }
-    ensures calls { CalledOnce (H.console_calls host.old) (H.console_calls host.new) }
+    ensures link { LinkCounted (H.state host.old).links (H.state host.new).links result.link }
+    ensures calls { CalledOnce (H.state host.old).console_calls (H.state host.new).console_calls }
     ensures untouched { ¬ IsCommand words.now → host.new ≡ host.old }
 {
     let Some(command) = command_of(words) else {

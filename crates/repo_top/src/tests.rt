@@ -18,7 +18,7 @@ const FRAMING: &[u8] =
     b"{\"attributes\":{\"message\":\"framing fault\"},\"status\":\"0.DOIP/Status.101\"}\n#\n#\n";
 
 fn arguments(alloc: Global, texts: &[&str]) -> Result<Words, AllocError> {
-    let mut words = Words::empty(alloc);
+    let mut words = Words::new(alloc);
     for text in texts {
         words.push(Str::of(alloc, text)?)?;
     }

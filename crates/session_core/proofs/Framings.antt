@@ -13,7 +13,8 @@ Spells limits bytes (message ∷ messages) =
 
 -- one message more
 pub spells_more : (limits : Limits) (bytes spelling : List ℕ) (messages : List (List Segment)) (message : List Segment)
-    → Spells limits bytes messages → Spelt limits spelling message → Spells limits (bytes ++ spelling) (messages ++ message ∷ [])
+    → Spells limits bytes messages → Spelt limits spelling message
+    → Spells limits (bytes ++ spelling) (messages ++ message ∷ [])
 spells_more limits bytes spelling [] message h one =
     (spelling, [], one, ap (λ (w : List ℕ). w ++ spelling) h ∙ sym (append-nil spelling), refl)
 spells_more limits bytes spelling (m ∷ messages) message h one = (
@@ -26,7 +27,8 @@ spells_more limits bytes spelling (m ∷ messages) message h one = (
 
 -- what follows the spellings is framed as it is alone
 pub spells_framed : (limits : Limits) (bytes after : List ℕ) (messages others : List (List Segment)) (rest : List ℕ)
-    → Spells limits bytes messages → Framed limits after others rest → Framed limits (bytes ++ after) (messages ++ others) rest
+    → Spells limits bytes messages → Framed limits after others rest
+    → Framed limits (bytes ++ after) (messages ++ others) rest
 spells_framed limits bytes after [] others rest h framed =
     subst (λ (w : List ℕ). Framed limits w others rest) (sym (ap (λ (w : List ℕ). w ++ after) h)) framed
 spells_framed limits bytes after (m ∷ messages) others rest h framed = (

@@ -1,7 +1,7 @@
 pub mod Prefixes
 pub mod Flow
 pub mod Outcomes
-pub mod Reports
+pub mod LinkLemmas
 pub mod Framings
 pub mod Sessions
 pub mod Transcripts

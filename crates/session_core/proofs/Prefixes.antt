@@ -11,7 +11,8 @@ range_from_is at bytes =
 
 -- a longer prefix was written
 pub prefix_grows : (a b c : Option (List ℕ)) (said n : ℕ) (bytes : List ℕ) →
-    Appends a b (take said bytes) → Appends b c (take n (take (length bytes - said) (drop said bytes))) → Appends a c (take (said + n) bytes)
+    Appends a b (take said bytes) → Appends b c (take n (take (length bytes - said) (drop said bytes)))
+    → Appends a c (take (said + n) bytes)
 prefix_grows a b c said n bytes before more =
     let P : List ℕ → Type 0 = λ w. Appends a c w in
     let Q : List ℕ → Type 0 = λ w. Appends b c (take n w) in

@@ -2,13 +2,13 @@
 use Rattle.std.proofs.Common.{◌≡◌, ◌≢◌, ◌⊎◌, inl, inr, ℕ, List, Option, None, Some, [], ◌∷◌, ◌++◌, length, take, drop, refl, sym, ap, ◌∙◌, subst, arith, append_assoc, append-nil, take-append-drop}
 use Rattle.std.specs.List.{AllByRecursion}
 use Rattle.std.specs.Io.KnownBytes.{Appends, Consumes, IsAtEnd}
-use Rattle.link_core.specs.Causes.{Rose}
+use Rattle.base_core.specs.Causes.{Rose}
 use Rattle.doip_segment.specs.declared.outcome.Limits.{Limits}
 use Rattle.doip_segment.specs.declared.outcome.Reason.{Reason}
 use Rattle.doip_segment.specs.Segments.{Segment}
 use Rattle.doip_segment.specs.Grammar.{IsWhite}
 use Rattle.doip_segment.specs.Framing.{Framed, Broken, saturated, IsUnbroken}
-use Rattle.session_core.specs.Report.{Report}
+use Rattle.link_core.specs.Link.{LinkState}
 use Rattle.session_core.specs.declared.end.SessionEnd.{SessionEnd}
 use Rattle.session_core.specs.declared.end.SessionEnd.TheVariants.{Ended, Cut, Framing, ReadFault, WriteFault}
 use Rattle.session_core.specs.Pairs.{Pair, messages_of, texts_of}
@@ -18,7 +18,8 @@ use Rattle.session_core.specs.Cuts.{ReadTheSame, ReadTheirInput, ReadsAll, IsFau
 -- ---- a link that reports its bytes
 
 -- bytes that were known stay known
-appends_known : (a b : Option (List ℕ)) (more bytes : List ℕ) → Appends a b more → a ≡ Some bytes → b ≡ Some (bytes ++ more)
+appends_known : (a b : Option (List ℕ)) (more bytes : List ℕ) → Appends a b more → a ≡ Some bytes
+    → b ≡ Some (bytes ++ more)
 appends_known None b more bytes h e = absurd (cc)
 appends_known (Some x) None more bytes h e = absurd h
 appends_known (Some x) (Some y) more bytes h e =
@@ -42,7 +43,8 @@ end_known None unread e h = absurd (cc)
 end_known (Some x) unread e h = let same : x ≡ unread = cc in sym same ∙ h
 
 -- the link's end in other words
-ends_as : (limits : Limits) (x : Conversation) (P Q rose : Type 0) (end : SessionEnd) → (P → Q) → EndsSo limits x P rose end → EndsSo limits x Q rose end
+ends_as : (limits : Limits) (x : Conversation) (P Q rose : Type 0) (end : SessionEnd) → (P → Q)
+    → EndsSo limits x P rose end → EndsSo limits x Q rose end
 ends_as limits x P Q rose Ended f h = (h.0, f h.1, h.2, h.3)
 ends_as limits x P Q rose (Cut place) f h = (h.0, f h.1, h.2, h.3, h.4)
 ends_as limits x P Q rose (Framing place reason) f h = h
@@ -50,8 +52,10 @@ ends_as limits x P Q rose ReadFault f h = h
 ends_as limits x P Q rose WriteFault f h = h
 
 -- what `serve` says of a session is its transcript
-pub transcribed : (limits : Limits) (old new : List Pair) (before after : Report) (end : SessionEnd) (input : List ℕ) → before.left ≡ Some input
-    → Served limits old new before after end → (t : Transcript) × Session limits t × IsTranscript old new before after end t
+pub transcribed : (limits : Limits) (old new : List Pair) (before after : LinkState) (end : SessionEnd) (input : List ℕ)
+    → before.left ≡ Some input
+    → Served limits old new before after end
+    → (t : Transcript) × Session limits t × IsTranscript old new before after end t
 transcribed limits old new before after end input known s =
     let rest = rest_known before.left after.left s.conversation.read input s.moved.left known in
     let t : Transcript = record {
@@ -68,7 +72,8 @@ transcribed limits old new before after end input known s =
         messages = s.conversation.messages;
         rest = s.conversation.rest;
         framed = s.framed;
-        ends = ends_as limits s.conversation (IsAtEnd after.left) (rest.unread ≡ []) (Rose before.faults after.faults) end
+        ends = ends_as limits s.conversation (IsAtEnd after.left) (rest.unread ≡ [])
+            (Rose before.faults after.faults) end
             (end_known after.left rest.unread rest.left) s.ends;
       },
       record {
@@ -88,7 +93,8 @@ transcribed limits old new before after end input known s =
 -- The last text of a session in which no write failed: the framing text where the rest breaks, and else none.
 abbrev IsLast : Limits → List ℕ → List ℕ → Type 0
 IsLast limits rest last =
-    ((last ≡ []) × IsUnbroken limits rest) ⊎ ((last ≡ framing_text) × (place : ℕ) × (reason : Reason) × Broken limits rest place reason)
+    ((last ≡ []) × IsUnbroken limits rest)
+    ⊎ ((last ≡ framing_text) × (place : ℕ) × (reason : Reason) × Broken limits rest place reason)
 
 -- A session in which no write failed.
 record Whole (limits : Limits) (x : Conversation) : Type 0 where
@@ -96,15 +102,21 @@ record Whole (limits : Limits) (x : Conversation) : Type 0 where
   all : RepliesToAll x last
   is : IsLast limits x.rest last
 
-whole : (limits : Limits) (x : Conversation) (at_end rose : Type 0) (end : SessionEnd) → EndsSo limits x at_end rose end → end ≢ WriteFault → Whole limits x
+whole : (limits : Limits) (x : Conversation) (at_end rose : Type 0) (end : SessionEnd) → EndsSo limits x at_end rose end
+    → end ≢ WriteFault → Whole limits x
 whole limits x at_end rose Ended h other = record { last = []; all = h.0; is = inl (refl, h.3) }
 whole limits x at_end rose (Cut place) h other = record { last = []; all = h.0; is = inl (refl, h.3) }
-whole limits x at_end rose (Framing place reason) h other = record { last = framing_text; all = h.0; is = inr (refl, h.1.at, reason, h.1.breaks) }
+whole limits x at_end rose (Framing place reason) h other = record {
+  last = framing_text;
+  all = h.0;
+  is = inr (refl, h.1.at, reason, h.1.breaks);
+}
 whole limits x at_end rose ReadFault h other = record { last = []; all = h.0; is = inl (refl, h.1) }
 whole limits x at_end rose WriteFault h other = absurd (other refl)
 
 -- what the bytes alone say of the last text
-last_same : (limits : Limits) (rest one other : List ℕ) → IsLast limits rest one → IsLast limits rest other → one ≡ other
+last_same : (limits : Limits) (rest one other : List ℕ) → IsLast limits rest one → IsLast limits rest other
+    → one ≡ other
 last_same limits rest one other (inl a) (inl b) = a.0 ∙ sym b.0
 last_same limits rest one other (inl a) (inr b) = absurd (a.1 b.1 b.2 b.3)
 last_same limits rest one other (inr a) (inl b) = absurd (b.1 a.1 a.2 a.3)
@@ -122,7 +134,13 @@ OneBreak = (limits : Limits) (bytes : List ℕ) (place other : ℕ) (reason seco
 
 -- a session and the one framing of its bytes
 abbrev of_transcript : (t : Transcript) → List (List Segment) → List ℕ → Conversation
-of_transcript t messages rest = record { read = t.read; messages = messages; rest = rest; pairs = t.pairs; written = t.written }
+of_transcript t messages rest = record {
+  read = t.read;
+  messages = messages;
+  rest = rest;
+  pairs = t.pairs;
+  written = t.written;
+}
 
 -- the framing of two sessions is one
 framed_alike : OneFraming → (limits : Limits) (one other : Transcript) (h : ReadTheSame limits one other)
@@ -149,16 +167,19 @@ same_messages only limits one other h safe good =
     first.all.each ∙ (framed_alike only limits one other h).0 ∙ sym second.all.each
 
 pub same_written : OneFraming → (limits : Limits) (one other : Transcript) → ReadTheSame limits one other
-    → one.end ≢ WriteFault → other.end ≢ WriteFault → texts_of one.pairs ≡ texts_of other.pairs → one.written ≡ other.written
+    → one.end ≢ WriteFault → other.end ≢ WriteFault → texts_of one.pairs ≡ texts_of other.pairs
+    → one.written ≡ other.written
 same_written only limits one other h safe good same =
     let first = first_whole limits one other h safe in
     let second = second_whole limits one other h good in
     let last : first.last ≡ second.last = last_same limits h.second.rest first.last second.last
     (subst (λ (w : List ℕ). IsLast limits w first.last) (framed_alike only limits one other h).1 first.is) second.is in
-    first.all.wrote ∙ (ap (λ (w : List ℕ). w ++ first.last) same ∙ (ap (λ (w : List ℕ). texts_of other.pairs ++ w) last ∙ sym second.all.wrote))
+    first.all.wrote ∙ (ap (λ (w : List ℕ). w ++ first.last) same
+    ∙ (ap (λ (w : List ℕ). texts_of other.pairs ++ w) last ∙ sym second.all.wrote))
 
 -- two ends over one rest
-ends_alike : OneBreak → (limits : Limits) (x y : Conversation) (P Q R S : Type 0) (one other : SessionEnd) → x.rest ≡ y.rest → x.read ≡ y.read
+ends_alike : OneBreak → (limits : Limits) (x y : Conversation) (P Q R S : Type 0) (one other : SessionEnd)
+    → x.rest ≡ y.rest → x.read ≡ y.read
     → EndsSo limits x P R one → EndsSo limits y Q S other → IsFaultless one → IsFaultless other → one ≡ other
 ends_alike once limits x y P Q R S Ended Ended rest read h k a b = refl
 ends_alike once limits x y P Q R S Ended (Cut p) rest read h k a b =
@@ -176,7 +197,8 @@ ends_alike once limits x y P Q R S (Framing p r) Ended rest read h k a b =
 ends_alike once limits x y P Q R S (Framing p r) (Cut q) rest read h k a b =
     absurd (k.3 h.1.at r (subst (λ (w : List ℕ). Broken limits w h.1.at r) rest h.1.breaks))
 ends_alike once limits x y P Q R S (Framing p r) (Framing q s) rest read h k a b =
-    let one = once limits y.rest h.1.at k.1.at r s (subst (λ (w : List ℕ). Broken limits w h.1.at r) rest h.1.breaks) k.1.breaks in
+    let one = once limits y.rest h.1.at k.1.at r s
+    (subst (λ (w : List ℕ). Broken limits w h.1.at r) rest h.1.breaks) k.1.breaks in
     let place : p ≡ q = omega (arith, h.1.is, k.1.is, h.1.all, k.1.all, one.0, ap length rest, ap length read) in
     ap (λ (n : ℕ). Framing n r) place ∙ ap (λ (w : Reason). Framing q w) one.1
 ends_alike once limits x y P Q R S ReadFault other rest read h k a b = absurd (a.0 refl)
@@ -187,15 +209,18 @@ ends_alike once limits x y P Q R S one WriteFault rest read h k a b = absurd (b.
 pub same_end : OneFraming → OneBreak → (limits : Limits) (one other : Transcript) → ReadTheSame limits one other
     → IsFaultless one.end → IsFaultless other.end → one.end ≡ other.end
 same_end only once limits one other h safe good =
-    ends_alike once limits (of_transcript one h.first.messages h.first.rest) (of_transcript other h.second.messages h.second.rest) _ _ _ _
+    ends_alike once limits (of_transcript one h.first.messages h.first.rest)
+    (of_transcript other h.second.messages h.second.rest) _ _ _ _
     one.end other.end (framed_alike only limits one other h).1 h.bytes h.first.ends h.second.ends safe good
 
 -- The second session ended at a failed write.
-failed : (limits : Limits) (x : Conversation) (P R : Type 0) (end : SessionEnd) → EndsSo limits x P R end → end ≡ WriteFault → ReplyFailed x ⊎ FramingFailed limits x
+failed : (limits : Limits) (x : Conversation) (P R : Type 0) (end : SessionEnd) → EndsSo limits x P R end
+    → end ≡ WriteFault → ReplyFailed x ⊎ FramingFailed limits x
 failed limits x P R end h e = (subst (λ (w : SessionEnd). EndsSo limits x P R w) e h).1
 
 -- the messages with a reply, and later ones
-later_of : (limits : Limits) (x : Conversation) → ReplyFailed x ⊎ FramingFailed limits x → (later : List (List Segment)) × (x.messages ≡ messages_of x.pairs ++ later)
+later_of : (limits : Limits) (x : Conversation) → ReplyFailed x ⊎ FramingFailed limits x
+    → (later : List (List Segment)) × (x.messages ≡ messages_of x.pairs ++ later)
 later_of limits x (inl reply) = (reply.later, reply.each)
 later_of limits x (inr framing) = ([], sym framing.all.each ∙ sym (append-nil (messages_of x.pairs)))
 
@@ -204,13 +229,15 @@ pub fewer_messages : OneFraming → (limits : Limits) (one other : Transcript) �
     → (later : List (List Segment)) × (messages_of one.pairs ≡ messages_of other.pairs ++ later)
 fewer_messages only limits one other h safe fault =
     let first = first_whole limits one other h safe in
-    let more = later_of limits (of_transcript other h.second.messages h.second.rest) (failed limits _ _ _ other.end h.second.ends fault) in
+    let more = later_of limits (of_transcript other h.second.messages h.second.rest)
+    (failed limits _ _ _ other.end h.second.ends fault) in
     (more.0, first.all.each ∙ (framed_alike only limits one other h).0 ∙ more.1)
 
 -- the texts of two lists of pairs
 texts_append : (ps qs : List Pair) → texts_of (ps ++ qs) ≡ texts_of ps ++ texts_of qs
 texts_append [] qs = refl
-texts_append (p ∷ ps) qs = ap (λ (w : List ℕ). p.text ++ w) (texts_append ps qs) ∙ sym (append_assoc p.text (texts_of ps) (texts_of qs))
+texts_append (p ∷ ps) qs =
+    ap (λ (w : List ℕ). p.text ++ w) (texts_append ps qs) ∙ sym (append_assoc p.text (texts_of ps) (texts_of qs))
 
 -- pairs with no message more are no more pairs
 no_more : (ps more : List Pair) → messages_of (ps ++ more) ≡ messages_of ps → more ≡ []
@@ -221,7 +248,8 @@ no_more (p ∷ ps) more e = let tails : messages_of (ps ++ more) ≡ messages_of
 -- a prefix of one text and what it lacks
 lacks : (n : ℕ) (before text : List ℕ) → before ++ text ≡ (before ++ take n text) ++ drop n text
 lacks n before text =
-    ap (λ (w : List ℕ). before ++ w) (sym (take-append-drop n text)) ∙ sym (append_assoc before (take n text) (drop n text))
+    ap (λ (w : List ℕ). before ++ w) (sym (take-append-drop n text))
+    ∙ sym (append_assoc before (take n text) (drop n text))
 
 -- the reply that wasn't written whole, and what would follow it
 reply_lacks : (n : ℕ) (before text more last : List ℕ)
@@ -232,22 +260,33 @@ reply_lacks n before text more last =
     ∙ append_assoc (before ++ take n text) (drop n text) (more ++ last))
 
 -- what a session with a failed write lacks
-lacking_of : (limits : Limits) (x y : Conversation) (more : List Pair) → x.messages ≡ y.messages → x.rest ≡ y.rest → Whole limits x
-    → ReplyFailed y ⊎ FramingFailed limits y → x.pairs ≡ y.pairs ++ more → (lacking : List ℕ) × (x.written ≡ y.written ++ lacking)
+lacking_of : (limits : Limits) (x y : Conversation) (more : List Pair) → x.messages ≡ y.messages → x.rest ≡ y.rest
+    → Whole limits x
+    → ReplyFailed y ⊎ FramingFailed limits y → x.pairs ≡ y.pairs ++ more
+    → (lacking : List ℕ) × (x.written ≡ y.written ++ lacking)
 lacking_of limits x y more messages rest first (inl reply) are =
     let texts : texts_of x.pairs ≡ (texts_of reply.before ++ reply.last.text) ++ texts_of more =
     ap texts_of are ∙ (texts_append y.pairs more ∙ ap (λ (w : List ℕ). w ++ texts_of more)
-    (ap texts_of reply.are ∙ (texts_append reply.before (reply.last ∷ []) ∙ ap (λ (w : List ℕ). texts_of reply.before ++ w) (append-nil reply.last.text)))) in (
+    (ap texts_of reply.are ∙ (texts_append reply.before (reply.last ∷ [])
+    ∙ ap (λ (w : List ℕ). texts_of reply.before ++ w) (append-nil reply.last.text)))) in (
       drop reply.count reply.last.text ++ (texts_of more ++ first.last),
       first.all.wrote ∙ (ap (λ (w : List ℕ). w ++ first.last) texts
           ∙ (reply_lacks reply.count (texts_of reply.before) reply.last.text (texts_of more) first.last
-          ∙ ap (λ (w : List ℕ). w ++ (drop reply.count reply.last.text ++ (texts_of more ++ first.last))) (sym reply.wrote))),
+          ∙ ap (λ (w : List ℕ). w ++ (drop reply.count reply.last.text ++ (texts_of more ++ first.last)))
+          (sym reply.wrote))),
     )
 lacking_of limits x y more messages rest first (inr framing) are =
-    let none : more ≡ [] = no_more y.pairs more (sym (ap messages_of are) ∙ (first.all.each ∙ (messages ∙ sym framing.all.each))) in
+    let none : more ≡ [] = no_more y.pairs more
+    (sym (ap messages_of are) ∙ (first.all.each ∙ (messages ∙ sym framing.all.each))) in
     let same : x.pairs ≡ y.pairs = are ∙ (ap (λ (w : List Pair). y.pairs ++ w) none ∙ append-nil y.pairs) in
     let last : first.last ≡ framing_text = last_same limits x.rest first.last framing_text first.is
-    (inr (refl, framing.place, framing.reason, subst (λ (w : List ℕ). Broken limits w framing.place framing.reason) (sym rest) framing.breaks)) in (
+    (inr (
+      refl,
+      framing.place,
+      framing.reason,
+      subst (λ (w : List ℕ). Broken limits w framing.place framing.reason)
+          (sym rest) framing.breaks,
+    )) in (
       drop framing.count framing_text,
       first.all.wrote ∙ (ap (λ (w : List ℕ). texts_of x.pairs ++ w) last
           ∙ (ap (λ (w : List Pair). texts_of w ++ framing_text) same
@@ -255,16 +294,19 @@ lacking_of limits x y more messages rest first (inr framing) are =
           ∙ ap (λ (w : List ℕ). w ++ drop framing.count framing_text) (sym framing.all.wrote)))),
     )
 
-pub written_prefix : OneFraming → (limits : Limits) (one other : Transcript) (more : List Pair) → ReadTheSame limits one other
+pub written_prefix : OneFraming → (limits : Limits) (one other : Transcript) (more : List Pair)
+    → ReadTheSame limits one other
     → one.end ≢ WriteFault → other.end ≡ WriteFault → one.pairs ≡ other.pairs ++ more
     → (lacking : List ℕ) × (one.written ≡ other.written ++ lacking)
 written_prefix only limits one other more h safe fault are =
     let alike = framed_alike only limits one other h in
-    lacking_of limits (of_transcript one h.first.messages h.first.rest) (of_transcript other h.second.messages h.second.rest) more
+    lacking_of limits (of_transcript one h.first.messages h.first.rest)
+    (of_transcript other h.second.messages h.second.rest) more
     alike.0 alike.1 (first_whole limits one other h safe) (failed limits _ _ _ other.end h.second.ends fault) are
 
 -- nothing is left unread by a session that read all
-none_unread : (limits : Limits) (x : Conversation) (unread : List ℕ) (R : Type 0) (end : SessionEnd) → EndsSo limits x (unread ≡ []) R end → ReadsAll end → unread ≡ []
+none_unread : (limits : Limits) (x : Conversation) (unread : List ℕ) (R : Type 0) (end : SessionEnd)
+    → EndsSo limits x (unread ≡ []) R end → ReadsAll end → unread ≡ []
 none_unread limits x unread R Ended h all = h.1
 none_unread limits x unread R (Cut place) h all = h.1
 none_unread limits x unread R (Framing place reason) h all = absurd all
@@ -272,7 +314,8 @@ none_unread limits x unread R ReadFault h all = absurd all
 none_unread limits x unread R WriteFault h all = absurd all
 
 -- two sessions that read all of one input
-pub same_read : (limits : Limits) (one other : Transcript) → ReadTheirInput limits one other → ReadTheSame limits one other
+pub same_read : (limits : Limits) (one other : Transcript) → ReadTheirInput limits one other
+    → ReadTheSame limits one other
 same_read limits one other h =
     let first : one.unread ≡ [] = none_unread limits _ one.unread _ one.end h.first.ends h.first_all in
     let second : other.unread ≡ [] = none_unread limits _ other.unread _ other.end h.second.ends h.second_all in

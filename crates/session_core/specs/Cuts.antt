@@ -1,4 +1,4 @@
--- Two sessions over the same bytes. This project's own.
+-- Two sessions over the same bytes.
 use Rattle.std.specs.Prelude.{◌≡◌, ◌≢◌, ◌++◌}
 use Rattle.doip_segment.specs.declared.outcome.Limits.{Limits}
 use Rattle.session_core.specs.Session.{Session, Transcript}

@@ -1,4 +1,4 @@
--- Messages, each with the text of its reply. This project's own.
+-- Messages, each with the text of its reply.
 use Rattle.std.specs.Prelude.{ℕ, List, map, flat_map}
 use Rattle.doip_segment.specs.Segments.{Segment}
 use Rattle.session_core.specs.declared.responder.Reply.{Reply}

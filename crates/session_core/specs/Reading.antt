@@ -1,10 +1,10 @@
--- What a reader takes from a link and feeds to a decoder. This project's own.
-use Rattle.std.specs.Prelude.{◌≡◌, ℕ, List, Option, [], ◌++◌, length}
-use Rattle.std.specs.Io.KnownBytes.{Appends, Consumes, IsAtEnd}
+-- What a reader takes from a link and feeds to a decoder.
+use Rattle.std.specs.Prelude.{◌≡◌, ◌≤◌, ℕ, List, Option, [], ◌++◌, length}
+use Rattle.std.specs.Io.KnownBytes.{Keeps, Appends, Consumes, IsAtEnd}
+use Rattle.link_core.specs.Link.{LinkState}
 use Rattle.doip_segment.specs.Decoding.{Decoding, Took, IsStanding, EndsBetween, Feeds, Frames}
 use Rattle.doip_segment.specs.declared.outcome.Step.{Step}
 use Rattle.doip_segment.specs.declared.outcome.Step.TheVariants as steps
-use Rattle.session_core.specs.Report.{Report}
 use Rattle.session_core.specs.declared.reader.Next.{Next}
 use Rattle.session_core.specs.declared.reader.Next.TheVariants.{Message, Ended, Cut, Framing, ReadFault}
 
@@ -28,14 +28,22 @@ step_of Message = steps.Message
 step_of (Framing place reason) = steps.Fault place reason
 step_of _ = steps.More
 
--- Where bytes are on their way: those that the reader holds, what the link reports, and what the decoder has read.
+-- What a call that only reads leaves of a link: what was written, and whether it is closed. Its faults never fall, and
+-- its reads never rise.
+pub record OnlyReads (old new : LinkState) : Type 0 where
+  pub written : Keeps old.written new.written
+  pub closed : new.closed ≡ old.closed
+  pub later : old.faults ≤ new.faults
+  pub reads : new.reads ≤ old.reads
+
+-- Where bytes are on their way: those that the reader holds, the link, and what the decoder has read.
 pub record Stage : Type 0 where
   pub held : List ℕ
-  pub link : Report
+  pub link : LinkState
   pub decoder : Decoding
 
 -- the stage with these parts
-abbrev pub stage : List ℕ → Report → Decoding → Stage
+abbrev pub stage : List ℕ → LinkState → Decoding → Stage
 stage held link decoder = record { held = held; link = link; decoder = decoder }
 
 -- The link gave bytes; of what the reader held followed by these the decoder took a prefix, and the reader holds the

@@ -1,8 +1,9 @@
--- One session of a link: what was read, what was replied, and how it ended. This project's own.
-use Rattle.std.specs.Prelude.{◌≡◌, ◌⊎◌, ℕ, List, [], ◌∷◌, ◌++◌, length, take, Some}
+-- One session of a link: what was read, what was replied, and how it ended.
+use Rattle.std.specs.Prelude.{◌≡◌, ◌≤◌, ◌⊎◌, ℕ, List, [], ◌∷◌, ◌++◌, length, take, Some}
 use Rattle.std.specs.List.{AllByRecursion}
-use Rattle.std.specs.Io.KnownBytes.{IsAtEnd}
-use Rattle.link_core.specs.Causes.{Rose}
+use Rattle.std.specs.Io.KnownBytes.{Appends, Consumes, IsAtEnd}
+use Rattle.base_core.specs.Causes.{Rose}
+use Rattle.link_core.specs.Link.{LinkState}
 use Rattle.doip_segment.specs.declared.outcome.Limits.{Limits}
 use Rattle.doip_segment.specs.declared.outcome.Reason.{Reason}
 use Rattle.doip_segment.specs.Segments.{Segment}
@@ -11,7 +12,6 @@ use Rattle.doip_segment.specs.Framing.{Framed, Broken, BreaksSession, IsUnbroken
 use Rattle.doip_message.specs.Fixed.{framing_reply}
 use Rattle.doip_message.specs.Reply.{reply_text}
 use Rattle.session_core.specs.Pairs.{Pair, messages_of, texts_of}
-use Rattle.session_core.specs.Report.{Report, Moves}
 use Rattle.session_core.specs.declared.end.SessionEnd.{SessionEnd}
 use Rattle.session_core.specs.declared.end.SessionEnd.TheVariants.{Ended, Cut, Framing, ReadFault, WriteFault}
 
@@ -85,8 +85,15 @@ pub record Session (limits : Limits) (t : Transcript) : Type 0 where
       (record { read = t.read; messages = messages; rest = rest; pairs = t.pairs; written = t.written })
       (t.unread ≡ []) (Rose t.before t.after) t.end
 
+-- From one state of a link to a later one, these bytes were read from it and these were written on it.
+pub record Moves (old new : LinkState) (read wrote : List ℕ) : Type 0 where
+  pub taken : Appends old.taken new.taken read
+  pub left : Consumes old.left new.left read
+  pub written : Appends old.written new.written wrote
+  pub later : old.faults ≤ new.faults
+
 -- The same for any link, also one that reports no bytes: its pairs are new, and the link gave and took the bytes.
-pub record Served (limits : Limits) (old new : List Pair) (before after : Report) (end : SessionEnd) : Type 0 where
+pub record Served (limits : Limits) (old new : List Pair) (before after : LinkState) (end : SessionEnd) : Type 0 where
   pub conversation : Conversation
   pub pairs : new ≡ old ++ conversation.pairs
   pub moved : Moves before after conversation.read conversation.written
@@ -94,7 +101,8 @@ pub record Served (limits : Limits) (old new : List Pair) (before after : Report
   pub ends : EndsSo limits conversation (IsAtEnd after.left) (Rose before.faults after.faults) end
 
 -- The transcript of a session on a link that reported the bytes that were left to read when it began.
-pub record IsTranscript (old new : List Pair) (before after : Report) (end : SessionEnd) (t : Transcript) : Type 0 where
+pub record IsTranscript (old new : List Pair) (before after : LinkState) (end : SessionEnd)
+    (t : Transcript) : Type 0 where
   pub pairs : new ≡ old ++ t.pairs
   pub input : before.left ≡ Some (t.read ++ t.unread)
   pub left : after.left ≡ Some t.unread

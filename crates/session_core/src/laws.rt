@@ -1,9 +1,9 @@
 //! Laws of sessions: each is the contract of a function that does nothing.
 ghost use Rattle.std.specs.Prelude.{◌≡◌, ◌≢◌, ◌++◌, ℕ, List, Some};
+ghost use Rattle.link_core.specs.Link.{LinkState};
 ghost use Rattle.doip_segment.specs.declared.outcome.Limits.{Limits};
 ghost use Rattle.doip_segment.specs.Segments.{Segment};
 ghost use Rattle.session_core.specs.Pairs.{Pair, messages_of, texts_of};
-ghost use Rattle.session_core.specs.Report.{Report};
 ghost use Rattle.session_core.specs.Session.{Session, Served, Transcript, IsTranscript};
 ghost use Rattle.session_core.specs.Cuts.{ReadTheSame, ReadTheirInput, IsFaultless};
 ghost use Rattle.session_core.specs.declared.end.SessionEnd.{SessionEnd};
@@ -13,7 +13,7 @@ use doip_segment::{each_stream_breaks_once, each_stream_has_one_framing};
 
 /// What `serve` says of a session is `Session`, where the link reports what is left to read.
 pub fn a_session_that_reports()
-    ensures { (limits : Limits) (old new : List Pair) (before after : Report) (end : SessionEnd) (input : List ℕ)
+    ensures { (limits : Limits) (old new : List Pair) (before after : LinkState) (end : SessionEnd) (input : List ℕ)
         → before.left ≡ Some input → Served limits old new before after end
         → (t : Transcript) × Session limits t × IsTranscript old new before after end t }
 {}

@@ -1,7 +1,7 @@
 //! The messages of a link.
 ghost use Rattle.std.specs.Prelude.{◌≡◌, ◌≤◌, ◌<◌, ◌⊎◌, [], length, IfOk, OnErr, Ok};
-ghost use Rattle.std.specs.Io.KnownBytes.{Keeps, Appends, Consumes, IsAtEnd};
-ghost use Rattle.link_core.specs.Causes.{HasCause, Rose};
+ghost use Rattle.std.specs.Io.KnownBytes.{Appends, Consumes, IsAtEnd};
+ghost use Rattle.base_core.specs.Causes.{Rose};
 ghost use Rattle.link_core.specs.Link.{Spends};
 ghost use Rattle.doip_segment.specs.Decoding.{IsPlaced};
 ghost use Rattle.session_core.specs.Reading.{MatchesEnd};
@@ -48,8 +48,7 @@ impl Model for Reader {
 }
 
 impl Reader {
-    ghost use Rattle.session_core.specs.Reading.{FeedsHeld, FramesHeld, Flows, stage, step_of, Means, IsReadFault};
-    ghost use Rattle.session_core.specs.Report.{report_of};
+    ghost use Rattle.session_core.specs.Reading.{FeedsHeld, FramesHeld, Flows, OnlyReads, stage, step_of, Means, IsReadFault};
 
     /// A reader that holds nothing. It takes all memory that it will ever need.
     pub fn new(alloc: Global) -> Result<Reader, AllocError>
@@ -88,14 +87,12 @@ impl Reader {
     fn fill<L: Link>(&mut self, link: &mut L) -> Result<usize, Failed>
         ensures count { IfOk result (λ count. length self.new ≡ count) }
         ensures failed { OnErr result (self.new ≡ []) }
-        ensures end { result ≡ Ok 0 → IsAtEnd (L.left link.new) }
-        ensures taken { Appends (L.taken link.old) (L.taken link.new) self.new }
-        ensures left { Consumes (L.left link.old) (L.left link.new) self.new }
-        ensures reads { Spends (L.reads link.old) (L.reads link.new) result }
-        ensures cause { HasCause (L.faults link.old) (L.faults link.new) result }
-
-        ensures written { Keeps (L.written link.old) (L.written link.new) }
-        ensures closed { L.closed link.new ≡ L.closed link.old }
+        ensures end { result ≡ Ok 0 → IsAtEnd (L.state link.new).left }
+        ensures taken { Appends (L.state link.old).taken (L.state link.new).taken self.new }
+        ensures left { Consumes (L.state link.old).left (L.state link.new).left self.new }
+        ensures spends { Spends (L.state link.old).reads (L.state link.new).reads result }
+        ensures cause { OnErr result (Rose (L.state link.old).faults (L.state link.new).faults) }
+        ensures only_reads { OnlyReads (L.state link.old) (L.state link.new) }
     {
         self.start = 0;
         self.end = 0;
@@ -111,20 +108,16 @@ impl Reader {
     /// # Errors
     /// Returns `ReadFault` only if the link's number of faults rose during this call.
     pub fn next<L: Link>(&mut self, link: &mut L, decoder: &mut Decoder) -> Next
-        ensures flow { Flows (step_of result) (stage self.old (report_of L.Link link.old) decoder.old)
-            (stage self.new (report_of L.Link link.new) decoder.new) }
-        ensures means { Means result self.new (L.left link.new) decoder.new }
-        ensures later { L.faults link.old ≤ L.faults link.new }
-        ensures cause { IsReadFault result → Rose (L.faults link.old) (L.faults link.new) }
-        ensures reads { L.reads link.new ≤ L.reads link.old }
+        ensures flow { Flows (step_of result) (stage self.old (L.state link.old) decoder.old)
+            (stage self.new (L.state link.new) decoder.new) }
+        ensures means { Means result self.new (L.state link.new).left decoder.new }
+        ensures only_reads { OnlyReads (L.state link.old) (L.state link.new) }
+        ensures cause { IsReadFault result → Rose (L.state link.old).faults (L.state link.new).faults }
         ensures bound { length self.new ≤ 65536 }
 
         // A message came from a read that gave bytes, or from what the reader held alone.
-        ensures spends { result ≡ Next.Message →
-            (L.reads link.new < L.reads link.old) ⊎ FeedsHeld self.old self.new decoder.old decoder.new }
-
-        ensures written { Keeps (L.written link.old) (L.written link.new) }
-        ensures closed { L.closed link.new ≡ L.closed link.old }
+        ensures spends { result ≡ Next.Message → ((L.state link.new).reads < (L.state link.old).reads)
+            ⊎ FeedsHeld self.old self.new decoder.old decoder.new }
     {
         // A proof learns here that the place fits its type.
         let _ = decoder.taken();

@@ -1,11 +1,8 @@
 //! The loop of a session.
-ghost use Rattle.std.specs.Prelude.{◌≡◌, ◌++◌, ◌∷◌, [], ◌≤◌};
-ghost use Rattle.std.specs.Io.KnownBytes.{Keeps};
-ghost use Rattle.link_core.specs.Causes.{HasCause};
+ghost use Rattle.std.specs.Prelude.{◌≡◌, []};
 ghost use Rattle.doip_segment.specs.Decoding.{Took};
-ghost use Rattle.session_core.specs.Saying.{Says};
+ghost use Rattle.session_core.specs.Saying.{SaysBytes};
 ghost use Rattle.session_core.specs.Pairs.{text_of};
-ghost use Rattle.session_core.specs.Report.{report_of};
 ghost use Rattle.session_core.specs.Session.{Served};
 
 use crate::{Next, Reader, Reply, Responder, SessionEnd, WriteFault, say};
@@ -15,13 +12,7 @@ use link_core::Link;
 
 // Writes a reply.
 fn say_reply<L: Link>(link: &mut L, buffer: &Vec<u8>, reply: Reply) -> Result<(), WriteFault>
-    ensures written { Says (L.written link.old) (L.written link.new) (text_of buffer.now.items reply) result }
-    ensures cause { HasCause (L.faults link.old) (L.faults link.new) result }
-
-    ensures taken { Keeps (L.taken link.old) (L.taken link.new) }
-    ensures left { Keeps (L.left link.old) (L.left link.new) }
-    ensures reads { L.reads link.new ≤ L.reads link.old }
-    ensures closed { L.closed link.new ≡ L.closed link.old }
+    ensures { SaysBytes (L.state link.old) (L.state link.new) (text_of buffer.now.items reply) result }
 {
     match reply {
         Reply::Made => say(link, buffer),
@@ -47,8 +38,8 @@ pub fn serve<L: Link, P: Responder>(
     requires ready { P.ready responder.old }
 
     ensures session { Served decoder.limits (P.answered responder.old) (P.answered responder.new)
-        (report_of L.Link link.old) (report_of L.Link link.new) result.2 }
-    ensures closed { L.closed link.new ≡ L.closed link.old }
+        (L.state link.old) (L.state link.new) result.2 }
+    ensures closed { (L.state link.new).closed ≡ (L.state link.old).closed }
 
     ensures ready { P.ready responder.new }
     ensures fixed { P.fixed responder.new ≡ P.fixed responder.old }

@@ -1,11 +1,8 @@
 //! A link for tests that gives a message a read, and each only after the message before has its reply.
-ghost use Rattle.std.specs.Prelude.{◌≡◌, ◌≤◌, ◌-◌, ◌^◌, None};
-ghost use Rattle.std.specs.Io.{ReadsAtMost};
-ghost use Rattle.std.specs.Io.KnownBytes.{Keeps, ReadConsumes};
-ghost use Rattle.link_core.specs.Causes.{HasCause};
-ghost use Rattle.link_core.specs.Link.{ReadGives, Takes, AppendsFront, Spends};
+ghost use Rattle.std.specs.Prelude.{◌-◌, None};
 
-use link_core::{Failed, Link};
+use base_core::{Failed, counted};
+use link_core::Link;
 
 const MESSAGE: &[u8] = b"{}\n#\n#\n";
 
@@ -34,21 +31,18 @@ impl Patient {
 }
 
 impl Link for Patient {
-    ghost taken = { λ p. None };
-
-    ghost left = { λ p. None };
-
-    ghost written = { λ p. None };
-
-    ghost closed = { λ p. p.closed };
-
-    ghost faults = { λ p. p.faults };
-
-    ghost reads = { λ p. 3 - p.reads };
+    ghost state = { λ p. record {
+      taken = None;
+      left = None;
+      written = None;
+      closed = p.closed;
+      faults = p.faults;
+      reads = 3 - p.reads;
+    } };
 
     fn read(&mut self, into: &mut [u8]) -> Result<usize, Failed> {
         if self.replies < self.reads {
-            self.faults = self.faults.saturating_add(1);
+            self.faults = counted(self.faults);
             return Err(Failed);
         }
         if self.reads >= 3 || into.len() < MESSAGE.len() {

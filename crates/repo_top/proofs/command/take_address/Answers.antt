@@ -5,4 +5,10 @@ use Rattle.repo_top.proofs.command.take_address.Goals as goal
 
 pub returns-clause-taken : goal.returns-clause-taken
 returns-clause-taken c = λ yes.
-    record { option = Address c.args.value.now; spelt = refl; in_form = tt; is_new = is_absent c.args.arguments.now.address c.is_some.result c.is_some.ensures c.if-is_some.false; is = refl }
+    record {
+      option = Address c.args.value.now;
+      spelt = refl;
+      in_form = tt;
+      is_new = is_absent c.args.arguments.now.address c.is_some.result c.is_some.ensures c.if-is_some.false;
+      is = refl;
+    }

@@ -8,7 +8,13 @@ config_of-requires-clause-port c = port_from_1 c.args.words.now (command_in c.ar
 
 pub new-requires-2-clause-json : goal.new-requires-2-clause-json
 new-requires-2-clause-json c =
-    omega (arith, (limit c.args.words.now (command_in c.args.command.now) c.requires).0, c.request-total.ensures, c.min.ensures)
+    omega (
+      arith,
+      (limit c.args.words.now (command_in c.args.command.now) c.requires).0,
+      c.request-total.ensures,
+      c.min.ensures,
+    )
 
 pub new-requires-2-clause-total : goal.new-requires-2-clause-total
-new-requires-2-clause-total c = omega (arith, (limit c.args.words.now (command_in c.args.command.now) c.requires).1, c.request-total.ensures)
+new-requires-2-clause-total c =
+    omega (arith, (limit c.args.words.now (command_in c.args.command.now) c.requires).1, c.request-total.ensures)

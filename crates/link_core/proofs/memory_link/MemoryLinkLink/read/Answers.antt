@@ -1,22 +1,29 @@
-use Rattle.std.proofs.Common.{◌≤◌, ◌+◌, length, drop, arith, length-append, length-drop}
+use Rattle.std.proofs.Common.{◌≤◌, ◌+◌, length, drop, arith, rules, length-append, length-drop}
 use Rattle.std.proofs.lemmas.List.{drop_all}
 use Rattle.link_core.proofs.Copied.{IsNext, next_range, given_grows, left_falls}
 use Rattle.link_core.proofs.memory_link.MemoryLinkLink.read.Goals as goal
 
-pub returns-clause-taken : goal.returns-clause-taken
-returns-clause-taken c =
-    let enough : c.min-count.result ≤ length (drop c.args.self.now.given c.args.self.now.bytes.items) =
-    omega (arith, length-drop c.args.self.now.given c.args.self.now.bytes.items) in
-    given_grows c.args.self.now.given c.min-count.result c.args.self.now.bytes.items c.copy_from_slice.new.self (drop c.min-count.result c.args.into.now)
-    (next_range _ _ _ _ _ c.copy_from_slice.ensures.after c.deref-3.ensures.value enough)
-
-pub returns-clause-left : goal.returns-clause-left
-returns-clause-left c =
-    let enough : c.min-count.result ≤ length (drop c.args.self.now.given c.args.self.now.bytes.items) =
-    omega (arith, length-drop c.args.self.now.given c.args.self.now.bytes.items) in
-    let next : IsNext c.args.self.now.given c.min-count.result c.args.self.now.bytes.items c.copy_from_slice.new.self =
-    next_range _ _ _ _ _ c.copy_from_slice.ensures.after c.deref-3.ensures.value enough in (
-      left_falls c.args.self.now.given c.min-count.result c.args.self.now.bytes.items c.copy_from_slice.new.self (drop c.min-count.result c.args.into.now) next,
-      λ none room. drop_all (c.args.self.now.given + c.min-count.result) c.args.self.now.bytes.items
-          (omega (arith, next.long, length-append c.copy_from_slice.new.self (drop c.min-count.result c.args.into.now), length-drop c.min-count.result c.args.into.now)),
-    )
+pub returns-clause-link : goal.returns-clause-link
+returns-clause-link c =
+    let given = c.args.self.now.given in
+    let bytes = c.args.self.now.bytes.items in
+    let count = c.min-count.result in
+    let copied = c.copy_from_slice.new.self in
+    let rest = drop count c.args.into.now in
+    let enough : count ≤ length (drop given bytes) = omega (arith, length-drop given bytes) in
+    let next : IsNext given count bytes copied =
+    next_range _ _ _ _ _ c.copy_from_slice.ensures.after c.deref-3.ensures.value enough in
+    record {
+      bound = search rules;
+      taken = given_grows given count bytes copied rest next;
+      left = (
+        left_falls given count bytes copied rest next,
+        λ none room. drop_all (given + count) bytes
+            (omega (arith, next.long, length-append copied rest, length-drop count c.args.into.now)),
+      );
+      reads = search rules;
+      few = search rules;
+      written = search rules;
+      closed = search rules;
+      cause = search rules;
+    }
