@@ -9,8 +9,11 @@ use Rattle.repo_step.specs.declared.outcome.Outcome.{Outcome}
 use Rattle.repo_step.specs.declared.outcome.Outcome.TheVariants.{Done, NoMemory}
 use Rattle.repo_step.specs.Setting.{Setting, State}
 use Rattle.repo_step.specs.Step.{step}
-use Rattle.repo_step.specs.History.{Entry, MomentsFrom, fixed_reply, is_of, state_after, pair_of, exchange_of, pairs_of}
-use Rattle.repo_step.proofs.Histories.{pairs_more}
+use Rattle.doip_message.specs.Fixed.{memory_reply}
+use Rattle.doip_message.specs.Reading.{request}
+use Rattle.repo_step.specs.History.{Entry, Exchange, MomentsFrom, fixed_reply, is_of, state_after, pair_of, exchange_of, exchanges_of, pairs_of}
+use Rattle.repo_step.proofs.FixedLemmas.{replied}
+use Rattle.repo_step.proofs.Histories.{exchanges_more, pairs_more}
 use Rattle.repo_step.specs.declared.config.Config.{Config}
 use Rattle.repo_step.specs.Setting.{setting_of}
 use Rattle.repo_top.specs.Session.{IsPast, Seat, first_state, session_pairs, turn_of}
@@ -30,8 +33,31 @@ own : (lane session : ℕ) (message : List Segment) (outcome : Outcome)
 own lane session message outcome = rw (eq-eqb lane lane refl, eq-eqb session session refl) refl
 
 pub no_turn : (setting : Setting) (lane session : ℕ) (es : List Entry) → es ≡ [] → IsPast setting lane session es
-no_turn setting lane session [] is = record { legal = record { moments = tt }; no_other = tt; moments = tt }
+no_turn setting lane session [] is = record { legal = record { moments = tt }; no_other = tt; moments = tt; causes = tt }
 no_turn setting lane session (e ∷ es) is = absurd (cc is)
+
+-- what the text for out of memory says of an exchange
+abbrev HasCause : Exchange → Type 0
+HasCause x = reply_text x.reply ≡ reply_text memory_reply → x.entry.outcome ≡ NoMemory
+
+-- a turn has its cause: no step's reply is that text
+turn_cause : (setting : Setting) (state : State) (lane session : ℕ) (message : List Segment) (outcome : Outcome)
+    → HasCause (exchange_of setting state (turn_of lane session message outcome))
+turn_cause setting state lane session message Done =
+    λ same. absurd ((replied setting (record {}) state (request message)).memory same)
+turn_cause setting state lane session message NoMemory = λ same. refl
+
+causes_more : (setting : Setting) (lane session : ℕ) (es : List Entry) (message : List Segment) (outcome : Outcome)
+    → AllByRecursion HasCause (exchanges_of setting (is_of lane session) first_state es)
+    → AllByRecursion HasCause
+    (exchanges_of setting (is_of lane session) first_state (es ++ turn_of lane session message outcome ∷ []))
+causes_more setting lane session es message outcome all =
+    let e : Entry = turn_of lane session message outcome in
+    let state : State = state_after setting (λ e. e) first_state es in
+    let grown = exchanges_more setting (λ e. e) (is_of lane session) first_state es e (own lane session message outcome) in
+    subst (λ (xs : List Exchange). AllByRecursion HasCause xs) (sym grown)
+    (all_more HasCause (exchanges_of setting (is_of lane session) first_state es) (exchange_of setting state e) all
+    (turn_cause setting state lane session message outcome))
 
 -- one turn more
 pub past_more : (setting : Setting) (lane session : ℕ) (es new : List Entry) (message : List Segment)
@@ -42,6 +68,7 @@ past_more setting lane session es new message outcome past is = subst (IsPast se
   no_other = all_more (λ e. is_of lane session e ≡ true) es (turn_of lane session message outcome) past.no_other
       (own lane session message outcome);
   moments = moments;
+  causes = causes_more setting lane session es message outcome past.causes;
 })
   where
     moments : AllByRecursion (λ e. e.moment ≡ 0) (es ++ turn_of lane session message outcome ∷ [])

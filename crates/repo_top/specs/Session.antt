@@ -5,9 +5,12 @@ use Rattle.std.specs.List.{AllByRecursion}
 use Rattle.doip_segment.specs.Segments.{Segment}
 use Rattle.session_core.specs.Pairs.{Pair, pair}
 use Rattle.session_core.specs.Session.{Transcript}
+use Rattle.doip_message.specs.Fixed.{memory_reply}
+use Rattle.doip_message.specs.Reply.{reply_text}
 use Rattle.repo_step.specs.declared.outcome.Outcome.{Outcome}
+use Rattle.repo_step.specs.declared.outcome.Outcome.TheVariants.{NoMemory}
 use Rattle.repo_step.specs.Setting.{Setting, State}
-use Rattle.repo_step.specs.History.{Entry, Legal, pairs_of}
+use Rattle.repo_step.specs.History.{Entry, Legal, exchanges_of, is_of, pairs_of}
 use Rattle.repo_step.specs.Laws.{IsAllOf}
 
 -- the state before the first message of a repository without a store: it holds nothing
@@ -30,11 +33,13 @@ abbrev pub session_pairs : Setting → State → ℕ → ℕ → List Entry → 
 session_pairs setting first lane session history = map (λ p. pair p.0 p.1) (pairs_of setting lane session first history)
 
 -- The history of a run without a store: legal, all of it of this one session, and at moment 0, since there is no disk's
--- clock.
+-- clock. The text for out of memory is the reply to an entry only if its outcome says so.
 pub record IsPast (setting : Setting) (lane session : ℕ) (history : List Entry) : Type 0 where
   pub legal : Legal setting first_state history
   pub no_other : IsAllOf lane session history
   pub moments : AllByRecursion (λ e. e.moment ≡ 0) history
+  pub causes : AllByRecursion (λ x. reply_text x.reply ≡ reply_text memory_reply → x.entry.outcome ≡ NoMemory)
+      (exchanges_of setting (is_of lane session) first_state history)
 
 -- The session has this history: the pairs of the one are those of the other.
 pub record IsSessionOf (setting : Setting) (history : List Entry) (t : Transcript) : Type 0 where

@@ -3,7 +3,7 @@ use Rattle.std.proofs.Common.{◌≡◌, ℕ, List, [], ◌++◌, length, refl, 
 use Rattle.doip_segment.specs.declared.outcome.Limits.{Limits}
 use Rattle.doip_segment.specs.Framing.{Framed, BreaksSession, saturated}
 use Rattle.doip_segment.proofs.StayLemmas.{IsBroken, stays, rest_unspelt, framed_on}
-use Rattle.link_core.specs.Causes.{Rose}
+use Rattle.base_core.specs.Causes.{Rose}
 use Rattle.session_core.specs.declared.end.SessionEnd.{SessionEnd}
 use Rattle.session_core.specs.declared.end.SessionEnd.TheVariants.{Ended, Cut, Framing, ReadFault, WriteFault}
 use Rattle.session_core.specs.Session.{EndsSo, Session, Transcript}
