@@ -2,6 +2,7 @@
 use Rattle.std.specs.Prelude.{◌≤◌, ℕ, List, [], ◌∷◌, ◌++◌, map, Bool, ◌&&◌, nat_eq, if◌then◌else◌, Option, Some, None, unwrap_or}
 use Rattle.doip_segment.specs.Segments.{Segment}
 use Rattle.doip_message.specs.Reply.{Replied, reply_text}
+use Rattle.doip_message.specs.Pairs.{Pair, pair}
 use Rattle.doip_message.specs.Fixed.{memory_reply}
 use Rattle.repo_step.specs.declared.brought.Brought.{Brought}
 use Rattle.repo_step.specs.declared.outcome.Outcome.{Outcome}
@@ -19,9 +20,9 @@ pub record Entry : Type 0 where
   pub brought : Brought
 
 -- some entries and a last one, or none
-abbrev pub entries_with : Option (List Entry × Entry) → List Entry
-entries_with None = []
-entries_with (Some parts) = parts.0 ++ parts.1 ∷ []
+abbrev pub entries_up_to : Option (List Entry × Entry) → List Entry
+entries_up_to None = []
+entries_up_to (Some parts) = parts.0 ++ parts.1 ∷ []
 
 -- the reply that an outcome fixes; a turn that is done replies as its step does
 abbrev pub fixed_reply : Outcome → Option Replied
@@ -81,12 +82,11 @@ abbrev pub state_of : Setting → State → List Entry → State
 state_of setting first history = state_after setting (λ e. e) first history
 
 -- a message and the text of the reply to it
-abbrev pub pair_of : Exchange → List Segment × List ℕ
-pair_of x = (x.entry.message, reply_text x.reply)
+abbrev pub pair_of : Exchange → Pair
+pair_of x = pair x.entry.message (reply_text x.reply)
 
 -- the messages and the texts of the replies of the items that pass
-abbrev pub pairs_where : {A : Type 0} → Setting → (A → Entry) → (A → Bool) → State → List A
-    → List (List Segment × List ℕ)
+abbrev pub pairs_where : {A : Type 0} → Setting → (A → Entry) → (A → Bool) → State → List A → List Pair
 pairs_where setting entry_of passes state items = map pair_of (exchanges_where setting entry_of passes state items)
 
 -- the entry is of this session
@@ -94,8 +94,8 @@ abbrev pub is_of : ℕ → ℕ → Entry → Bool
 is_of lane session e = nat_eq e.lane lane && nat_eq e.session session
 
 -- the pairs of one session of a history
-abbrev pub pairs_of : Setting → ℕ → ℕ → State → List Entry → List (List Segment × List ℕ)
-pairs_of setting lane session first history = pairs_where setting (λ e. e) (is_of lane session) first history
+abbrev pub session_pairs : Setting → State → ℕ → ℕ → List Entry → List Pair
+session_pairs setting first lane session history = pairs_where setting (λ e. e) (is_of lane session) first history
 
 -- Moments never fall along a history.
 abbrev pub MomentsFrom : ℕ → List Entry → Type 0

@@ -4,8 +4,8 @@ ghost use Rattle.doip_segment.specs.Segments.{Segment};
 ghost use Rattle.repo_step.specs.declared.brought.Brought.{Brought};
 ghost use Rattle.repo_step.specs.Setting.{Setting, State};
 ghost use Rattle.repo_step.specs.Step.{step};
-ghost use Rattle.repo_step.specs.History.{Entry, exchanges_of, pairs_of};
-ghost use Rattle.repo_step.specs.Laws.{IsNoFixedText, GoesOn, AddsOne, NonePasses, IsAllOf, cause_of};
+ghost use Rattle.repo_step.specs.History.{Entry, exchanges_of, session_pairs};
+ghost use Rattle.repo_step.specs.Laws.{IsNoFixedText, Continues, AddsOne, NonePasses, IsAllOf, cause_of};
 
 /// No reply of the step has the text for out of memory, for a disk fault, for a closed store or for a framing fault. So
 /// whoever reads one of these texts knows that no step wrote it.
@@ -18,7 +18,7 @@ pub fn no_reply_is_a_fixed_text()
 /// left. One more entry adds its exchange if it passes the test, and entries of which none passes have no exchange.
 pub fn replies_go_from_state_to_state()
     ensures goes_on { (setting : Setting) (passes : Entry → Bool) (first : State) (before later : List Entry)
-        → GoesOn setting passes first before later }
+        → Continues setting passes first before later }
     ensures adds_one { (setting : Setting) (passes : Entry → Bool) (first : State) (before : List Entry) (e : Entry)
         → passes e ≡ true → AddsOne setting passes first before e }
     ensures none { (setting : Setting) (passes : Entry → Bool) (first : State) (history : List Entry)
@@ -32,5 +32,6 @@ pub fn equal_causes_give_equal_texts()
         (history other : List Entry)
         → IsAllOf lane session history → IsAllOf other_lane other_session other
         → map cause_of history ≡ map cause_of other
-        → pairs_of setting lane session first history ≡ pairs_of setting other_lane other_session first other }
+        → session_pairs setting first lane session history
+        ≡ session_pairs setting first other_lane other_session other }
 {}

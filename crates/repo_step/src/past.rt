@@ -58,11 +58,11 @@ struct Last {
 
 impl Model for Entries {
     ghost use Rattle.std.specs.Prelude.{List, option_map, length};
-    ghost use Rattle.repo_step.specs.History.{Entry, entries_with};
+    ghost use Rattle.repo_step.specs.History.{Entry, entries_up_to};
 
     ghost Value = { List Entry };
 
     ghost size = { length };
 
-    ghost view = { λ entries. entries_with (option_map (λ last. (last.before.value, last.entry)) entries.last) };
+    ghost view = { λ entries. entries_up_to (option_map (λ last. (last.before.value, last.entry)) entries.last) };
 }

@@ -7,7 +7,7 @@ use Rattle.std.proofs.lemmas.Fmt.{decimal_injective}
 use Rattle.std.proofs.lemmas.Grind.{flat_map-append}
 use Rattle.std.specs.List.{AllByRecursion}
 use Rattle.repo_top.specs.Command.{GivenOption, Address, Port, Request, Command, AreArgumentsOf, IsCommand, IsInForm, IsService, spelling_of, address_in, port_in, request_in, port_of, request_limit}
-use Rattle.repo_top.specs.Taking.{IsGiven, with_option, Takes, Refuses, HasTaken}
+use Rattle.repo_top.specs.Taking.{IsGiven, with_option, AddsOption, RefusesOption, HasTaken}
 
 -- two arguments before others
 record Two (m n s t : List ℕ) (xs ys : List (List ℕ)) : Type 0 where
@@ -158,7 +158,7 @@ its_form (b ∷ given) more a h = its_form given more a h.1
 
 -- Arguments with a refused option are no command.
 pub refused : (words : List (List ℕ)) (place : ℕ) (taken : Command) (name value : List ℕ) (rest : List (List ℕ))
-    → HasTaken words place taken → drop place words ≡ name ∷ value ∷ rest → Refuses taken name value → IsCommand words
+    → HasTaken words place taken → drop place words ≡ name ∷ value ∷ rest → RefusesOption taken name value → IsCommand words
     → ⊥
 refused words place taken name value rest h next refuses is = at (options_after words place taken is.0 h is.1)
   where
@@ -236,7 +236,7 @@ service_kept old (Port n) = refl
 service_kept old (Request n) = refl
 
 pub takes : (words : List (List ℕ)) (place : ℕ) (old new : Command) (name value : List ℕ) → HasTaken words place old
-    → drop place words ≡ name ∷ value ∷ drop (place + 2) words → Takes old new name value
+    → drop place words ≡ name ∷ value ∷ drop (place + 2) words → AddsOption old new name value
     → HasTaken words (place + 2) new
 takes words place old new name value h next t =
     subst (λ (command : Command). HasTaken words (place + 2) command) (sym t.is) took
@@ -365,5 +365,5 @@ limit words command h = at command.request h.request
     at (Some n) e = all_of h.given n h.in_form e
 
 -- the service stays
-pub takes_service : (old new : Command) (name value : List ℕ) → Takes old new name value → new.service ≡ old.service
+pub takes_service : (old new : Command) (name value : List ℕ) → AddsOption old new name value → new.service ≡ old.service
 takes_service old new name value t = ap (λ (command : Command). command.service) t.is ∙ sym (service_kept old t.option)

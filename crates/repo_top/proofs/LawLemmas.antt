@@ -1,17 +1,16 @@
 -- Sessions over the same bytes whose turns had the same outcomes.
 use Rattle.std.proofs.Common.{◌≡◌, ℕ, List, [], ◌∷◌, Bool, if◌then◌else◌, map, refl, ap, ◌∙◌}
-use Rattle.session_core.specs.Pairs.{pair, messages_of}
+use Rattle.doip_message.specs.Pairs.{messages_of}
 use Rattle.doip_segment.specs.Segments.{Segment}
 use Rattle.repo_step.specs.declared.brought.Brought.{Brought}
 use Rattle.repo_step.specs.declared.outcome.Outcome.{Outcome}
 use Rattle.repo_step.specs.Setting.{Setting, State}
-use Rattle.repo_step.specs.History.{Entry, Exchange, after, exchange_of, exchanges_of, is_of, pair_of}
+use Rattle.repo_step.specs.History.{Entry, Exchange, after, exchange_of, exchanges_of, is_of, pair_of, session_pairs}
 use Rattle.repo_step.specs.Laws.{Cause, IsAllOf, cause_of}
-use Rattle.repo_top.specs.Session.{session_pairs}
 
 -- the messages of exchanges
 messages : List Exchange → List (List Segment)
-messages xs = messages_of (map (λ p. pair p.0 p.1) (map pair_of xs))
+messages xs = messages_of (map pair_of xs)
 
 -- the pairs of a history that is all of the session have its messages
 pub own_messages : (setting : Setting) (state : State) (lane session : ℕ) (es : List Entry) → IsAllOf lane session es

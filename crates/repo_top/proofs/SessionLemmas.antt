@@ -1,22 +1,21 @@
 -- The history of the session of a run, turn by turn.
-use Rattle.std.proofs.Common.{◌≡◌, ℕ, List, [], ◌∷◌, ◌++◌, true, unwrap_or, option_map, map, refl, sym, ap, ◌∙◌, subst, arith, eq-eqb}
-use Rattle.std.proofs.lemmas.List.{map-append}
+use Rattle.std.proofs.Common.{◌≡◌, ℕ, List, [], ◌∷◌, ◌++◌, true, unwrap_or, option_map, refl, sym, ap, ◌∙◌, subst, arith, eq-eqb}
 use Rattle.std.specs.List.{AllByRecursion}
 use Rattle.doip_segment.specs.Segments.{Segment}
 use Rattle.doip_message.specs.Reply.{reply_text}
-use Rattle.session_core.specs.Pairs.{pair}
+use Rattle.doip_message.specs.Pairs.{pair}
 use Rattle.repo_step.specs.declared.outcome.Outcome.{Outcome}
 use Rattle.repo_step.specs.declared.outcome.Outcome.TheVariants.{Done, NoMemory}
 use Rattle.repo_step.specs.Setting.{Setting, State}
 use Rattle.repo_step.specs.Step.{step}
 use Rattle.doip_message.specs.Fixed.{memory_reply}
 use Rattle.doip_message.specs.Reading.{request}
-use Rattle.repo_step.specs.History.{Entry, Exchange, MomentsFrom, fixed_reply, is_of, state_after, pair_of, exchange_of, exchanges_of, pairs_of}
+use Rattle.repo_step.specs.History.{Entry, Exchange, MomentsFrom, fixed_reply, is_of, state_after, pair_of, exchange_of, exchanges_of, session_pairs}
 use Rattle.repo_step.proofs.FixedLemmas.{replied}
 use Rattle.repo_step.proofs.Histories.{exchanges_more, pairs_more}
 use Rattle.repo_step.specs.declared.config.Config.{Config}
 use Rattle.repo_step.specs.Setting.{setting_of}
-use Rattle.repo_top.specs.Session.{IsPast, Seat, first_state, session_pairs, turn_of}
+use Rattle.repo_top.specs.Session.{IsPast, Seat, first_state, turn_of}
 
 all_more : {X : Type 0} (P : X → Type 0) (xs : List X) (x : X) → AllByRecursion P xs → P x
     → AllByRecursion P (xs ++ x ∷ [])
@@ -79,7 +78,7 @@ pub reply_made : (setting : Setting) (state : State) (lane session : ℕ) (messa
     (outcome : Outcome)
     → (outcome ≡ Done → made ≡ reply_text (step setting (record {}) state message).reply)
     → unwrap_or (option_map reply_text (fixed_reply outcome)) made
-    ≡ (pair_of (exchange_of setting state (turn_of lane session message outcome))).1
+    ≡ (pair_of (exchange_of setting state (turn_of lane session message outcome))).text
 reply_made setting state lane session message made Done is = is refl
 reply_made setting state lane session message made NoMemory is = refl
 
@@ -94,14 +93,11 @@ pub pairs_turn : (setting : Setting) (lane session : ℕ) (es new : List Entry) 
 pairs_turn setting lane session es new message outcome text made is said done =
     let e : Entry = turn_of lane session message outcome in
     let state : State = state_after setting (λ e. e) first_state es in
-    let last : text ≡ (pair_of (exchange_of setting state e)).1 =
+    let last : text ≡ (pair_of (exchange_of setting state e)).text =
     said ∙ reply_made setting state lane session message made outcome (λ h. done h state) in
     ap (session_pairs setting first_state lane session) is
-    ∙ (ap (map (λ p. pair p.0 p.1))
-    (pairs_more setting (λ e. e) (is_of lane session) first_state es e (own lane session message outcome))
-    ∙ (map-append (λ p. pair p.0 p.1) (pairs_of setting lane session first_state es)
-    (pair_of (exchange_of setting state e) ∷ [])
-    ∙ ap (λ (t : List ℕ). session_pairs setting first_state lane session es ++ pair message t ∷ []) (sym last)))
+    ∙ (pairs_more setting (λ e. e) (is_of lane session) first_state es e (own lane session message outcome)
+    ∙ ap (λ (t : List ℕ). session_pairs setting first_state lane session es ++ pair message t ∷ []) (sym last))
 
 -- the seat of a responder's parts
 abbrev pub seat : Config → ℕ → ℕ → Seat

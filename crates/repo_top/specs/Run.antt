@@ -7,14 +7,14 @@ use Rattle.link_core.specs.Host.{IsFresh, IsNew}
 use Rattle.doip_segment.specs.declared.outcome.Limits.{Limits}
 use Rattle.session_core.specs.declared.end.SessionEnd.{SessionEnd}
 use Rattle.session_core.specs.declared.end.SessionEnd.TheVariants.{Ended, Cut, Framing, ReadFault, WriteFault}
-use Rattle.session_core.specs.Pairs.{Pair}
+use Rattle.doip_message.specs.Pairs.{Pair}
 use Rattle.session_core.specs.Session.{Session, Served, Transcript, IsTranscript}
 use Rattle.repo_step.specs.Setting.{Setting}
-use Rattle.repo_step.specs.History.{Entry}
+use Rattle.repo_step.specs.History.{Entry, session_pairs}
 use Rattle.repo_top.specs.declared.outcome.Note.{Note}
 use Rattle.repo_top.specs.declared.outcome.Note.TheVariants as notes
-use Rattle.repo_top.specs.Command.{Command, AreArgumentsOf, IsCommand, prefix_of, address_of, port_of, request_limit}
-use Rattle.repo_top.specs.Session.{IsPast, first_state, session_pairs}
+use Rattle.repo_top.specs.Command.{Command, AreArgumentsOf, prefix_of, address_of, port_of, request_limit}
+use Rattle.repo_top.specs.Session.{IsPast, first_state}
 
 -- The repository is set up as the arguments say.
 pub record IsSetUp (words : List (List ℕ)) (setting : Setting) (limits : Limits) : Type 0 where
@@ -45,11 +45,11 @@ pub record RanSession (words : List (List ℕ)) (past : List Entry) (before afte
   pub served : IsServed limits (session_pairs setting first_state 0 0 past) before after end
 
 -- A run that was handed a link returns it with the end of its session; another run has no link, no end and no history.
-abbrev pub Runs : {T : Type 0} → (T → LinkState) → List (List ℕ) → List Entry → Option T → Option T → Option SessionEnd
+abbrev pub IsRunOf : {T : Type 0} → (T → LinkState) → List (List ℕ) → List Entry → Option T → Option T → Option SessionEnd
     → Type 0
-Runs state words past (Some begun) (Some link) (Some end) = RanSession words past (state begun) (state link) end
-Runs state words past None None None = past ≡ []
-Runs state words past _ _ _ = ⊥
+IsRunOf state words past (Some begun) (Some link) (Some end) = RanSession words past (state begun) (state link) end
+IsRunOf state words past None None None = past ≡ []
+IsRunOf state words past _ _ _ = ⊥
 
 -- the link as it was handed out had no fault, nothing was read from it or written on it, and it wasn't closed
 abbrev pub BeginsFresh : {T : Type 0} → (T → LinkState) → Option T → Type 0
@@ -82,23 +82,30 @@ abbrev pub note_at : SessionEnd → Note
 note_at Ended = notes.Nothing
 note_at end = notes.End end
 
--- The status of a command: that of its session's end, 7 only if the link's count of faults rose; before any session 4
--- when out of memory, or 9 if the host's count rose.
-abbrev pub IsStatus : {T : Type 0} → (T → LinkState) → ℕ → ℕ → ℕ → Note → Option T → Option SessionEnd → Type 0
-IsStatus state before now status note (Some link) (Some end) =
-    (status ≡ status_at end) × (note ≡ note_at end) × (status ≡ 7 → Rose 0 (state link).faults)
-IsStatus state before now status note None None =
-    ((status ≡ 4) × (note ≡ notes.Memory)) ⊎ ((status ≡ 9) × (note ≡ notes.Host) × Rose before now)
-IsStatus state before now status note _ _ = ⊥
+-- what a run ends with
+pub record Exit : Type 0 where
+  pub status : ℕ
+  pub note : Note
 
--- Each status has its cause: 2 exactly when the command line is invalid.
-abbrev pub HasStatus : {T : Type 0} → (T → LinkState) → List (List ℕ) → ℕ → ℕ → ℕ → Note → Option T → Option SessionEnd
-    → Type 0
-HasStatus state words before now status note link end =
-    ((status ≡ 2) × (note ≡ notes.Words) × ¬ IsCommand words × (link ≡ None) × (end ≡ None))
-    ⊎ (IsCommand words × IsStatus state before now status note link end)
+-- an exit with this status and this note
+abbrev pub exit : ℕ → Note → Exit
+exit status note = record { status = status; note = note }
+
+-- The exit of a valid command: that of its session's end, with status 7 only if the link's count of faults rose; before
+-- any session 4 when out of memory, or 9 if the host's count rose.
+abbrev pub IsExit : {T : Type 0} → (T → LinkState) → ℕ → ℕ → Exit → Option T → Option SessionEnd → Type 0
+IsExit state before now x (Some link) (Some end) =
+    (x ≡ exit (status_at end) (note_at end)) × (x.status ≡ 7 → Rose 0 (state link).faults)
+IsExit state before now x None None = (x ≡ exit 4 notes.Memory) ⊎ ((x ≡ exit 9 notes.Host) × Rose before now)
+IsExit state before now x _ _ = ⊥
+
+-- The exit of an invalid command line: status 2, with no link and no end.
+pub record IsInvalidExit {T : Type 0} (x : Exit) (link : Option T) (end : Option SessionEnd) : Type 0 where
+  pub is : x ≡ exit 2 notes.Words
+  pub no_link : link ≡ None
+  pub no_end : end ≡ None
 
 -- no fault of the link was counted
-abbrev pub IsFaultless : {T : Type 0} → (T → LinkState) → Option T → Type 0
-IsFaultless state (Some link) = ¬ Rose 0 (state link).faults
-IsFaultless state None = Unit {0}
+abbrev pub CountsNoFault : {T : Type 0} → (T → LinkState) → Option T → Type 0
+CountsNoFault state (Some link) = ¬ Rose 0 (state link).faults
+CountsNoFault state None = Unit {0}

@@ -3,14 +3,13 @@
 use Rattle.std.specs.Prelude.{◌≡◌, ℕ, List, map}
 use Rattle.std.specs.List.{AllByRecursion}
 use Rattle.doip_segment.specs.Segments.{Segment}
-use Rattle.session_core.specs.Pairs.{Pair, pair}
 use Rattle.session_core.specs.Session.{Transcript}
 use Rattle.doip_message.specs.Fixed.{memory_reply}
 use Rattle.doip_message.specs.Reply.{reply_text}
 use Rattle.repo_step.specs.declared.outcome.Outcome.{Outcome}
 use Rattle.repo_step.specs.declared.outcome.Outcome.TheVariants.{NoMemory}
 use Rattle.repo_step.specs.Setting.{Setting, State}
-use Rattle.repo_step.specs.History.{Entry, Legal, exchanges_of, is_of, pairs_of}
+use Rattle.repo_step.specs.History.{Entry, Legal, exchanges_of, is_of, session_pairs}
 use Rattle.repo_step.specs.Laws.{IsAllOf}
 
 -- the state before the first message of a repository without a store: it holds nothing
@@ -27,10 +26,6 @@ pub record Seat : Type 0 where
   pub setting : Setting
   pub lane : ℕ
   pub session : ℕ
-
--- the pairs of one session of a history, in order: each message with the text of its reply
-abbrev pub session_pairs : Setting → State → ℕ → ℕ → List Entry → List Pair
-session_pairs setting first lane session history = map (λ p. pair p.0 p.1) (pairs_of setting lane session first history)
 
 -- The history of a run without a store: legal, all of it of this one session, and at moment 0, since there is no disk's
 -- clock. The text for out of memory is the reply to an entry only if its outcome says so.

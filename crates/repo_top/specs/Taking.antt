@@ -21,7 +21,7 @@ with_option command (Port n) = record command { port = Some n }
 with_option command (Request n) = record command { request = Some n }
 
 -- a name and a value spell an option that was not there
-pub record Takes (old new : Command) (name value : List ℕ) : Type 0 where
+pub record AddsOption (old new : Command) (name value : List ℕ) : Type 0 where
   pub option : GivenOption
   pub spelt : spelling_of option ≡ name ∷ value ∷ []
   pub in_form : IsInForm option
@@ -29,8 +29,8 @@ pub record Takes (old new : Command) (name value : List ℕ) : Type 0 where
   pub is : new ≡ with_option old option
 
 -- a name and a value spell no option but one that is there
-abbrev pub Refuses : Command → List ℕ → List ℕ → Type 0
-Refuses old name value =
+abbrev pub RefusesOption : Command → List ℕ → List ℕ → Type 0
+RefusesOption old name value =
     (option : GivenOption) → spelling_of option ≡ name ∷ value ∷ [] → IsInForm option → IsGiven old option
 
 -- The arguments before this place are `answer`, the service and the options of the command.

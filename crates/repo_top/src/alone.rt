@@ -1,7 +1,7 @@
 //! A repository without a store, which replies to one session.
 ghost use Rattle.std.specs.Prelude.{◌≡◌, ◌∷◌, ◌++◌, [], ℕ, List, IfOk, unwrap_or, option_map};
 ghost use Rattle.doip_message.specs.Reply.{reply_text};
-ghost use Rattle.session_core.specs.Pairs.{text_of};
+ghost use Rattle.session_core.specs.Texts.{reply_bytes};
 ghost use Rattle.repo_step.specs.History.{fixed_reply};
 ghost use Rattle.repo_top.specs.Session.{turn_of};
 ghost use Rattle.repo_step.specs.declared.brought.Brought.{Brought};
@@ -72,7 +72,7 @@ impl<'a> Alone<'a> {
 
 // Where the text of an outcome's reply is: in the buffer, or the constant that the outcome fixes.
 fn reply_of(outcome: Outcome) -> Reply
-    ensures { (made : List ℕ) → text_of made result ≡ unwrap_or (option_map reply_text (fixed_reply outcome)) made }
+    ensures { (made : List ℕ) → reply_bytes made result ≡ unwrap_or (option_map reply_text (fixed_reply outcome)) made }
 {
     match fixed_text(outcome) {
         Some(text) => Reply::Constant(text),
@@ -92,7 +92,8 @@ fn step_text(alloc: Global, config: &Config, message: &Message) -> Result<Bytes,
 
 impl<'a> Responder for Alone<'a> {
     ghost use Rattle.repo_step.specs.Setting.{setting_of};
-    ghost use Rattle.repo_top.specs.Session.{Seat, IsPast, first_state, session_pairs};
+    ghost use Rattle.repo_step.specs.History.{session_pairs};
+    ghost use Rattle.repo_top.specs.Session.{Seat, IsPast, first_state};
 
     ghost Fixed = { Seat };
 

@@ -1,7 +1,7 @@
 //! The arguments as a command.
 ghost use Rattle.std.specs.Prelude.{◌≡◌, ◌≤◌, ◌↔◌, ℕ, IfSome, None, codes, length, get_or, decimal, IsTrue, IsFalse, unwrap_or};
 ghost use Rattle.repo_top.specs.Command.{AreArgumentsOf, IsCommand, IsService, prefix_of, address_of, port_of, request_limit};
-ghost use Rattle.repo_top.specs.Taking.{HasTaken, Refuses, Takes, command_in};
+ghost use Rattle.repo_top.specs.Taking.{HasTaken, RefusesOption, AddsOption, command_in};
 
 use base_core::Items;
 use doip_json::Str;
@@ -123,8 +123,8 @@ fn port_of(text: &str) -> Option<u16>
 // Adds the address to the command, unless it has one. Whether it did.
 fn take_address<'a>(arguments: &mut AnswerArguments<'a>, value: &'a str) -> bool
     ensures taken { IsTrue result
-        → Takes (command_in arguments.old) (command_in arguments.new) (codes "--address") value.now }
-    ensures refused { IsFalse result → Refuses (command_in arguments.old) (codes "--address") value.now }
+        → AddsOption (command_in arguments.old) (command_in arguments.new) (codes "--address") value.now }
+    ensures refused { IsFalse result → RefusesOption (command_in arguments.old) (codes "--address") value.now }
 {
     if arguments.address.is_some() {
         return false;
@@ -136,8 +136,8 @@ fn take_address<'a>(arguments: &mut AnswerArguments<'a>, value: &'a str) -> bool
 // Adds the port to the command, unless it has one or the value is none. Whether it did.
 fn take_port(arguments: &mut AnswerArguments<'_>, value: &str) -> bool
     ensures taken { IsTrue result
-        → Takes (command_in arguments.old) (command_in arguments.new) (codes "--port") value.now }
-    ensures refused { IsFalse result → Refuses (command_in arguments.old) (codes "--port") value.now }
+        → AddsOption (command_in arguments.old) (command_in arguments.new) (codes "--port") value.now }
+    ensures refused { IsFalse result → RefusesOption (command_in arguments.old) (codes "--port") value.now }
 {
     if arguments.port.is_some() {
         return false;
@@ -152,8 +152,8 @@ fn take_port(arguments: &mut AnswerArguments<'_>, value: &str) -> bool
 // Adds the limit on requests to the command, unless it has one or the value is none. Whether it did.
 fn take_request(arguments: &mut AnswerArguments<'_>, value: &str) -> bool
     ensures taken { IsTrue result
-        → Takes (command_in arguments.old) (command_in arguments.new) (codes "--request") value.now }
-    ensures refused { IsFalse result → Refuses (command_in arguments.old) (codes "--request") value.now }
+        → AddsOption (command_in arguments.old) (command_in arguments.new) (codes "--request") value.now }
+    ensures refused { IsFalse result → RefusesOption (command_in arguments.old) (codes "--request") value.now }
 {
     if arguments.request.is_some() {
         return false;
@@ -167,8 +167,8 @@ fn take_request(arguments: &mut AnswerArguments<'_>, value: &str) -> bool
 
 // Adds the option to the command. Whether it is known, not there yet, and its value in form.
 fn take_option<'a>(arguments: &mut AnswerArguments<'a>, name: &str, value: &'a str) -> bool
-    ensures taken { IsTrue result → Takes (command_in arguments.old) (command_in arguments.new) name.now value.now }
-    ensures refused { IsFalse result → Refuses (command_in arguments.old) name.now value.now }
+    ensures taken { IsTrue result → AddsOption (command_in arguments.old) (command_in arguments.new) name.now value.now }
+    ensures refused { IsFalse result → RefusesOption (command_in arguments.old) name.now value.now }
 {
     match name {
         "--address" => take_address(arguments, value),

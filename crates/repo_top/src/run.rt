@@ -5,8 +5,9 @@ ghost use Rattle.doip_segment.specs.Decoding.{Took};
 ghost use Rattle.repo_step.specs.Setting.{setting_of};
 ghost use Rattle.repo_top.specs.Command.{AreArgumentsOf, IsCommand, IsService, prefix_of, address_of, port_of};
 ghost use Rattle.repo_top.specs.Taking.{command_in};
-ghost use Rattle.repo_top.specs.Session.{IsPast, first_state, session_pairs};
-ghost use Rattle.repo_top.specs.Run.{Runs, IsSetUp, IsServed, BeginsFresh, BeginsWithFirst, LinkCounted, CalledOnce, HasStatus, IsFaultless, status_at, note_at};
+ghost use Rattle.repo_step.specs.History.{session_pairs};
+ghost use Rattle.repo_top.specs.Session.{IsPast, first_state};
+ghost use Rattle.repo_top.specs.Run.{IsRunOf, IsSetUp, IsServed, BeginsFresh, BeginsWithFirst, LinkCounted, CalledOnce, IsExit, IsInvalidExit, exit, CountsNoFault, status_at, note_at};
 
 use crate::alone::Alone;
 use crate::command::{AnswerArguments, command_of, prefix_of};
@@ -56,7 +57,7 @@ fn config_of(alloc: Global, command: &AnswerArguments<'_>) -> Result<Config, All
     }
 }
 
-// Takes all the memory that a session needs beside that of its replies.
+// AddsOption all the memory that a session needs beside that of its replies.
 fn prepare(
     alloc: Global,
     words: &Words,
@@ -138,7 +139,7 @@ fn status_of(end: SessionEnd) -> (u8, Note)
     }
 }
 
-/// Runs the command of the arguments.
+/// IsRunOf the command of the arguments.
 ///
 /// | status | comes | note |
 /// |---|---|---|
@@ -157,16 +158,17 @@ where
     H::Link: Drop,
     // However the input is cut into reads, the messages are those that the grammar defines. Written are, in order, the
     // texts of the replies of one history of the one-thread repository, or a prefix of them if the link failed.
-    ensures session { Runs H.Link.state words.now result.past (option_map (λ s. s.value) result.begun) result.link
+    ensures session { IsRunOf H.Link.state words.now result.past (option_map (λ s. s.value) result.begun) result.link
         result.end }
     ensures fresh { BeginsFresh H.Link.state (option_map (λ s. s.value) result.begun) }
     ensures first { BeginsWithFirst H.Link.state (H.state host.old).consoles (option_map (λ s. s.value) result.begun) }
 
     // Each status has its cause, and if no fault was counted a command has status 0, or 4 when out of memory.
-    ensures status { HasStatus H.Link.state words.now (H.state host.old).faults (H.state host.new).faults result.status
-        result.note result.link result.end }
+    ensures status { IsCommand words.now → IsExit H.Link.state (H.state host.old).faults (H.state host.new).faults
+        (exit result.status result.note) result.link result.end }
+    ensures invalid { ¬ IsCommand words.now → IsInvalidExit (exit result.status result.note) result.link result.end }
     ensures complete { IsCommand words.now → ¬ Rose (H.state host.old).faults (H.state host.new).faults
-        → IsFaultless H.Link.state result.link → (result.status ≡ 0) ⊎ (result.status ≡ 4) }
+        → CountsNoFault H.Link.state result.link → (result.status ≡ 0) ⊎ (result.status ≡ 4) }
 
     // `console` is called once at most, and what it handed out is returned.
     ensures link { LinkCounted (H.state host.old).links (H.state host.new).links result.link }

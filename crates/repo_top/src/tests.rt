@@ -33,7 +33,7 @@ fn joined(alloc: Global, texts: &[&[u8]]) -> Result<Vec<u8>, AllocError> {
     Ok(all)
 }
 
-// Runs a command over a host with one link.
+// IsRunOf a command over a host with one link.
 fn run(alloc: Global, texts: &[&str], link: MemoryLink) -> Result<Ran<MemoryHost>, Fail> {
     let mut host = MemoryHost::new(alloc, Vec::new(alloc));
     host.add_console(link)?;
@@ -41,7 +41,7 @@ fn run(alloc: Global, texts: &[&str], link: MemoryLink) -> Result<Ran<MemoryHost
     Ok(run_plain(alloc, &words, &mut host))
 }
 
-// Runs `answer 35.TEST/svc` over these bytes.
+// IsRunOf `answer 35.TEST/svc` over these bytes.
 fn answer(alloc: Global, bytes: &[u8]) -> Result<Ran<MemoryHost>, Fail> {
     run(
         alloc,
@@ -175,12 +175,17 @@ fn each_failed_call_ends_the_session(rt: HostRuntime) -> Result<(), Fail> {
         let failing = Vec::from_slice(alloc, &[call])?;
         let link = MemoryLink::new(alloc, bytes, Vec::new(alloc), Vec::new(alloc), failing);
         let ran = run(alloc, &["answer", "35.TEST/svc"], link)?;
-        let (status, texts): (u8, &[&[u8]]) = match call {
-            0 | 1 => (7, &[]),
-            2 => (7, &[DONE]),
-            _ => (0, &[DONE, FRAMING]),
+        let framing = SessionEnd::Framing {
+            place: HELLO.len() as u64 + 2,
+            reason: Reason::Marker,
         };
-        assert_eq!(rt; ran.status, status, "at {call}");
+        let (status, end, texts): (u8, SessionEnd, &[&[u8]]) = match call {
+            0 => (7, SessionEnd::ReadFault, &[]),
+            1 => (7, SessionEnd::WriteFault, &[]),
+            2 => (7, SessionEnd::WriteFault, &[DONE]),
+            _ => (0, framing, &[DONE, FRAMING]),
+        };
+        assert_eq!(rt; (ran.status, ran.end), (status, Some(end)), "at {call}");
         assert_eq!(rt;
             written(&ran),
             joined(alloc, texts)?.as_slice(),

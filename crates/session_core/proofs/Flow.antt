@@ -12,7 +12,7 @@ use Rattle.doip_segment.specs.Decoding.{Decoding, Took, Uses, Feeds, Frames, Rep
 use Rattle.session_core.specs.declared.reader.Next.{Next}
 use Rattle.session_core.specs.declared.reader.Next.TheVariants as nexts
 use Rattle.link_core.specs.Link.{LinkState}
-use Rattle.session_core.specs.Reading.{FeedsHeld, FramesHeld, Flows, Stage, stage, MatchesEnd, step_of}
+use Rattle.session_core.specs.Reading.{FeedsHeld, FramesHeld, Flows, Stage, stage, MatchesEnd, decoder_step}
 
 -- what a buffer holds after n more bytes
 held_after : (s e n : ℕ) (bs : List ℕ) → s + n ≤ e
@@ -193,7 +193,7 @@ spends_on step r0 r1 h0 h1 h2 a b c (inl fell) more = inl fell
 spends_on step r0 r1 h0 h1 h2 a b c (inr first) more = inr (held_on step h0 h1 h2 a b c first more)
 
 -- at the link's end the decoder has neither a message nor a fault
-pub ends_more : (next : Next) (d : Decoding) → MatchesEnd next d → steps.More ≡ step_of next
+pub ends_more : (next : Next) (d : Decoding) → MatchesEnd next d → steps.More ≡ decoder_step next
 ends_more nexts.Ended d h = refl
 ends_more (nexts.Cut place) d h = refl
 ends_more nexts.Message d h = absurd h

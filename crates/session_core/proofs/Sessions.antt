@@ -12,7 +12,7 @@ use Rattle.doip_segment.specs.Decoding.{Decoding, Took, EndsBetween, IsStanding,
 use Rattle.session_core.specs.Reading.{FeedsHeld, Flows, OnlyReads, Stage, stage, IsSpent}
 use Rattle.link_core.specs.Link.{LinkState}
 use Rattle.session_core.specs.declared.end.SessionEnd.TheVariants.{Ended, Cut, Framing, ReadFault, WriteFault}
-use Rattle.session_core.specs.Pairs.{Pair, pair, messages_of, texts_of}
+use Rattle.doip_message.specs.Pairs.{Pair, pair, messages_of, texts_of}
 use Rattle.session_core.specs.Session.{framing_text, Moves, Served}
 use Rattle.session_core.proofs.Framings.{Spells, spells_more, spells_framed, spells_rest}
 use Rattle.session_core.proofs.Outcomes.{white_between, between_white}

@@ -11,9 +11,9 @@ use Rattle.doip_segment.specs.Framing.{Framed, Broken, saturated, IsUnbroken}
 use Rattle.link_core.specs.Link.{LinkState}
 use Rattle.session_core.specs.declared.end.SessionEnd.{SessionEnd}
 use Rattle.session_core.specs.declared.end.SessionEnd.TheVariants.{Ended, Cut, Framing, ReadFault, WriteFault}
-use Rattle.session_core.specs.Pairs.{Pair, messages_of, texts_of}
+use Rattle.doip_message.specs.Pairs.{Pair, messages_of, texts_of}
 use Rattle.session_core.specs.Session.{framing_text, Conversation, RepliesToAll, ReplyFailed, FramingFailed, EndsSo, Transcript, Session, Served, IsTranscript}
-use Rattle.session_core.specs.Cuts.{ReadTheSame, ReadTheirInput, ReadsAll, IsFaultless}
+use Rattle.session_core.specs.Cuts.{ReadTheSame, IsFaultless}
 
 -- ---- a link that reports its bytes
 
@@ -303,25 +303,3 @@ written_prefix only limits one other more h safe fault are =
     lacking_of limits (of_transcript one h.first.messages h.first.rest)
     (of_transcript other h.second.messages h.second.rest) more
     alike.0 alike.1 (first_whole limits one other h safe) (failed limits _ _ _ other.end h.second.ends fault) are
-
--- nothing is left unread by a session that read all
-none_unread : (limits : Limits) (x : Conversation) (unread : List ℕ) (R : Type 0) (end : SessionEnd)
-    → EndsSo limits x (unread ≡ []) R end → ReadsAll end → unread ≡ []
-none_unread limits x unread R Ended h all = h.1
-none_unread limits x unread R (Cut place) h all = h.1
-none_unread limits x unread R (Framing place reason) h all = absurd all
-none_unread limits x unread R ReadFault h all = absurd all
-none_unread limits x unread R WriteFault h all = absurd all
-
--- two sessions that read all of one input
-pub same_read : (limits : Limits) (one other : Transcript) → ReadTheirInput limits one other
-    → ReadTheSame limits one other
-same_read limits one other h =
-    let first : one.unread ≡ [] = none_unread limits _ one.unread _ one.end h.first.ends h.first_all in
-    let second : other.unread ≡ [] = none_unread limits _ other.unread _ other.end h.second.ends h.second_all in
-    record {
-      first = h.first;
-      second = h.second;
-      bytes = sym (ap (λ (w : List ℕ). one.read ++ w) first ∙ append-nil one.read)
-          ∙ (h.input ∙ (ap (λ (w : List ℕ). other.read ++ w) second ∙ append-nil other.read));
-    }

@@ -1,6 +1,6 @@
 pub mod Reading
 pub mod Saying
-pub mod Pairs
+pub mod Texts
 pub mod Session
 pub mod Cuts
 pub mod OneInput

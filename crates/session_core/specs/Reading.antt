@@ -23,10 +23,10 @@ pub record FramesHeld (step : Step) (held_old held_new : List ℕ) (old new : De
       → Frames old.limits came (fed ++ held_new) (length fed) step new
 
 -- what the decoder reports at each result
-abbrev pub step_of : Next → Step
-step_of Message = steps.Message
-step_of (Framing place reason) = steps.Fault place reason
-step_of _ = steps.More
+abbrev pub decoder_step : Next → Step
+decoder_step Message = steps.Message
+decoder_step (Framing place reason) = steps.Fault place reason
+decoder_step _ = steps.More
 
 -- What a call that only reads leaves of a link: what was written, and whether it is closed. Its faults never fall, and
 -- its reads never rise.

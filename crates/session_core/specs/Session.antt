@@ -11,7 +11,7 @@ use Rattle.doip_segment.specs.Grammar.{IsWhite}
 use Rattle.doip_segment.specs.Framing.{Framed, Broken, BreaksSession, IsUnbroken, saturated}
 use Rattle.doip_message.specs.Fixed.{framing_reply}
 use Rattle.doip_message.specs.Reply.{reply_text}
-use Rattle.session_core.specs.Pairs.{Pair, messages_of, texts_of}
+use Rattle.doip_message.specs.Pairs.{Pair, messages_of, texts_of}
 use Rattle.session_core.specs.declared.end.SessionEnd.{SessionEnd}
 use Rattle.session_core.specs.declared.end.SessionEnd.TheVariants.{Ended, Cut, Framing, ReadFault, WriteFault}
 

@@ -3,9 +3,9 @@ ghost use Rattle.std.specs.Prelude.{◌≡◌, ◌≢◌, ◌++◌, ℕ, List, S
 ghost use Rattle.link_core.specs.Link.{LinkState};
 ghost use Rattle.doip_segment.specs.declared.outcome.Limits.{Limits};
 ghost use Rattle.doip_segment.specs.Segments.{Segment};
-ghost use Rattle.session_core.specs.Pairs.{Pair, messages_of, texts_of};
+ghost use Rattle.doip_message.specs.Pairs.{Pair, messages_of, texts_of};
 ghost use Rattle.session_core.specs.Session.{Session, Served, Transcript, IsTranscript};
-ghost use Rattle.session_core.specs.Cuts.{ReadTheSame, ReadTheirInput, IsFaultless};
+ghost use Rattle.session_core.specs.Cuts.{ReadTheSame, IsFaultless};
 ghost use Rattle.session_core.specs.declared.end.SessionEnd.{SessionEnd};
 ghost use Rattle.session_core.specs.declared.end.SessionEnd.TheVariants.{WriteFault};
 
@@ -36,10 +36,6 @@ pub fn cuts_do_not_matter()
     ensures prefix { (limits : Limits) (one other : Transcript) (more : List Pair) → ReadTheSame limits one other
         → one.end ≢ WriteFault → other.end ≡ WriteFault → one.pairs ≡ other.pairs ++ more
         → (lacking : List ℕ) × (one.written ≡ other.written ++ lacking) }
-
-    // Sessions that end at their link's end read the same bytes where the links held the same.
-    ensures input { (limits : Limits) (one other : Transcript)
-        → ReadTheirInput limits one other → ReadTheSame limits one other }
 {
     each_stream_has_one_framing();
     each_stream_breaks_once();

@@ -1,7 +1,7 @@
 //! The law of two sessions over one input: the contract of a function that does nothing.
 ghost use Rattle.std.specs.Prelude.{◌≡◌};
 ghost use Rattle.doip_segment.specs.declared.outcome.Limits.{Limits};
-ghost use Rattle.session_core.specs.Pairs.{messages_of, texts_of};
+ghost use Rattle.doip_message.specs.Pairs.{messages_of, texts_of};
 ghost use Rattle.session_core.specs.Session.{Transcript};
 ghost use Rattle.session_core.specs.OneInput.{ReadOneInput};
 

@@ -48,7 +48,7 @@ impl Model for Reader {
 }
 
 impl Reader {
-    ghost use Rattle.session_core.specs.Reading.{FeedsHeld, FramesHeld, Flows, OnlyReads, stage, step_of, Means, IsReadFault};
+    ghost use Rattle.session_core.specs.Reading.{FeedsHeld, FramesHeld, Flows, OnlyReads, stage, decoder_step, Means, IsReadFault};
 
     /// A reader that holds nothing. It takes all memory that it will ever need.
     pub fn new(alloc: Global) -> Result<Reader, AllocError>
@@ -108,7 +108,7 @@ impl Reader {
     /// # Errors
     /// Returns `ReadFault` only if the link's number of faults rose during this call.
     pub fn next<L: Link>(&mut self, link: &mut L, decoder: &mut Decoder) -> Next
-        ensures flow { Flows (step_of result) (stage self.old (L.state link.old) decoder.old)
+        ensures flow { Flows (decoder_step result) (stage self.old (L.state link.old) decoder.old)
             (stage self.new (L.state link.new) decoder.new) }
         ensures means { Means result self.new (L.state link.new).left decoder.new }
         ensures only_reads { OnlyReads (L.state link.old) (L.state link.new) }

@@ -18,7 +18,8 @@ pub enum Reply {
 /// The decoder and the buffer go in by value and come back, since a turn of a lock can carry no loan.
 pub trait Responder {
     ghost use Rattle.doip_segment.specs.Segments.{Segment};
-    ghost use Rattle.session_core.specs.Pairs.{Pair, pair, text_of};
+    ghost use Rattle.doip_message.specs.Pairs.{Pair, pair};
+    ghost use Rattle.session_core.specs.Texts.{reply_bytes};
 
     /// What no call changes.
     ghost Fixed: { Type 0 };
@@ -40,5 +41,5 @@ pub trait Responder {
         ensures fixed { fixed self.new ≡ fixed self.old }
         ensures decoder { result.0 ≡ decoder }
         ensures answered { answered self.new ≡ answered self.old
-            ++ pair decoder.segments (text_of result.1.items result.2) ∷ [] };
+            ++ pair decoder.segments (reply_bytes result.1.items result.2) ∷ [] };
 }

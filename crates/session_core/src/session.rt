@@ -2,7 +2,7 @@
 ghost use Rattle.std.specs.Prelude.{◌≡◌, []};
 ghost use Rattle.doip_segment.specs.Decoding.{Took};
 ghost use Rattle.session_core.specs.Saying.{SaysBytes};
-ghost use Rattle.session_core.specs.Pairs.{text_of};
+ghost use Rattle.session_core.specs.Texts.{reply_bytes};
 ghost use Rattle.session_core.specs.Session.{Served};
 
 use crate::{Next, Reader, Reply, Responder, SessionEnd, WriteFault, say};
@@ -12,7 +12,7 @@ use link_core::Link;
 
 // Writes a reply.
 fn say_reply<L: Link>(link: &mut L, buffer: &Vec<u8>, reply: Reply) -> Result<(), WriteFault>
-    ensures { SaysBytes (L.state link.old) (L.state link.new) (text_of buffer.now.items reply) result }
+    ensures { SaysBytes (L.state link.old) (L.state link.new) (reply_bytes buffer.now.items reply) result }
 {
     match reply {
         Reply::Made => say(link, buffer),

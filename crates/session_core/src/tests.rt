@@ -192,6 +192,23 @@ fn a_failing_call_ends_a_session_with_its_fault(rt: HostRuntime) -> Result<(), F
 }
 
 #[test]
+fn a_failing_read_and_a_failing_write_have_ends_of_their_own(rt: HostRuntime) -> Result<(), Fail> {
+    let alloc = rt.alloc();
+    // All of `TWO` comes by the first read: then two replies are written, and a read finds the end.
+    let ends = [
+        SessionEnd::ReadFault,
+        SessionEnd::WriteFault,
+        SessionEnd::WriteFault,
+        SessionEnd::ReadFault,
+    ];
+    for (call, end) in ends.into_iter().enumerate() {
+        let mut link = link_with(alloc, TWO, TWO.len(), Some(call as u64))?;
+        assert_eq!(rt; served(alloc, &mut link)?, end, "call {call}");
+    }
+    Ok(())
+}
+
+#[test]
 fn a_write_that_fails_first_leaves_nothing_written(rt: HostRuntime) -> Result<(), Fail> {
     let alloc = rt.alloc();
     let mut link = link_with(alloc, TWO, TWO.len(), Some(1))?;

@@ -1,7 +1,8 @@
 //! A responder for tests: it replies with the bytes of a message's first segment, and keeps its pairs for contracts.
 ghost use Rattle.std.specs.Prelude.{◌≡◌, ◌++◌, ◌∷◌, []};
 ghost use Rattle.doip_segment.specs.Decoding.{IsStanding};
-ghost use Rattle.session_core.specs.Pairs.{pair, text_of};
+ghost use Rattle.doip_message.specs.Pairs.{pair};
+ghost use Rattle.session_core.specs.Texts.{reply_bytes};
 
 use crate::{Reply, Responder};
 use doip_segment::{Decoder, Message};
@@ -58,7 +59,7 @@ struct Past {
 
 impl Model for Past {
     ghost use Rattle.std.specs.Prelude.{List};
-    ghost use Rattle.session_core.specs.Pairs.{Pair};
+    ghost use Rattle.doip_message.specs.Pairs.{Pair};
 
     ghost Value = { List Pair };
 
@@ -75,7 +76,7 @@ impl Past {
     }
 
     fn add(&mut self, message: &Message, buffer: &Vec<u8>, reply: Reply)
-        ensures { self.new ≡ self.old ++ pair message.now.segments (text_of buffer.now.items reply) ∷ [] }
+        ensures { self.new ≡ self.old ++ pair message.now.segments (reply_bytes buffer.now.items reply) ∷ [] }
     {
         let past = mem::replace(&mut self.seen, Snapshot::of(&Turns { last: None }));
         let last = Last {
@@ -105,7 +106,8 @@ struct Last {
 
 impl Model for Turns {
     ghost use Rattle.std.specs.Prelude.{List, length, option_map, unwrap_or, [], ◌++◌, ◌∷◌};
-    ghost use Rattle.session_core.specs.Pairs.{Pair, pair, text_of};
+    ghost use Rattle.doip_message.specs.Pairs.{Pair, pair};
+    ghost use Rattle.session_core.specs.Texts.{reply_bytes};
 
     ghost Value = { List Pair };
 
@@ -113,5 +115,5 @@ impl Model for Turns {
 
     ghost view = { λ t. unwrap_or
         (option_map (λ l. l.past.value
-        ++ pair l.message.value.segments (text_of l.buffer.value.items l.reply) ∷ []) t.last) [] };
+        ++ pair l.message.value.segments (reply_bytes l.buffer.value.items l.reply) ∷ []) t.last) [] };
 }

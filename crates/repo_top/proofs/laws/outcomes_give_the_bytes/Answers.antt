@@ -1,5 +1,5 @@
 use Rattle.std.proofs.Common.{◌≡◌, List, map, sym, ap, ◌∙◌}
-use Rattle.session_core.specs.Pairs.{messages_of, texts_of, pair}
+use Rattle.doip_message.specs.Pairs.{messages_of, texts_of}
 use Rattle.session_core.specs.Session.{Transcript}
 use Rattle.repo_step.specs.Setting.{Setting}
 use Rattle.repo_step.specs.History.{Entry}
@@ -16,7 +16,7 @@ texts c setting past other t u has had messages same =
     sym (own_messages setting first_state 0 0 past has.past.no_other) ∙ (sym (ap messages_of has.pairs) ∙ (messages ∙ (ap messages_of had.pairs ∙ own_messages setting first_state 0 0 other had.past.no_other))) in
     let causes = same_causes past other spoke same.outcomes same.brought in
     let pairs = c.equal_causes_give_equal_texts.ensures setting first_state 0 0 0 0 past other has.past.no_other had.past.no_other causes in
-    ap texts_of (has.pairs ∙ (ap (map (λ p. pair p.0 p.1)) pairs ∙ sym had.pairs))
+    ap texts_of (has.pairs ∙ (pairs ∙ sym had.pairs))
 
 pub returns-clause-input : goal.returns-clause-input
 returns-clause-input c = λ setting limits past other t u has had one same.

@@ -1,8 +1,9 @@
 use Rattle.std.proofs.Common.{◌≡◌, [], List, sym, ap, ◌∙◌, subst}
-use Rattle.session_core.specs.Pairs.{Pair}
+use Rattle.doip_message.specs.Pairs.{Pair}
 use Rattle.session_core.specs.Session.{Served}
 use Rattle.repo_step.specs.Setting.{setting_of}
-use Rattle.repo_top.specs.Session.{Seat, first_state, session_pairs}
+use Rattle.repo_step.specs.History.{session_pairs}
+use Rattle.repo_top.specs.Session.{Seat, first_state}
 use Rattle.repo_top.proofs.SessionLemmas.{seat, same_seat}
 use Rattle.repo_top.proofs.run.serve_link.Goals as goal
 

@@ -1,4 +1,4 @@
-use Rattle.session_core.proofs.Transcripts.{same_messages, same_written, same_end, fewer_messages, written_prefix, same_read}
+use Rattle.session_core.proofs.Transcripts.{same_messages, same_written, same_end, fewer_messages, written_prefix}
 use Rattle.session_core.proofs.laws.cuts_do_not_matter.Goals as goal
 
 pub returns-clause-messages : goal.returns-clause-messages
@@ -15,6 +15,3 @@ returns-clause-fewer_messages c = fewer_messages c.each_stream_has_one_framing.e
 
 pub returns-clause-prefix : goal.returns-clause-prefix
 returns-clause-prefix c = written_prefix c.each_stream_has_one_framing.ensures.only
-
-pub returns-clause-input : goal.returns-clause-input
-returns-clause-input c = same_read

@@ -1,7 +1,8 @@
 use Rattle.std.proofs.Common.{◌≡◌, ℕ, List, arith, refl, sym, ap, ◌∙◌, subst, take}
 use Rattle.std.specs.Io.KnownBytes.{Appends}
 use Rattle.doip_segment.specs.Decoding.{Decoding, IsStanding}
-use Rattle.session_core.specs.Pairs.{pair, text_of}
+use Rattle.doip_message.specs.Pairs.{pair}
+use Rattle.session_core.specs.Texts.{reply_bytes}
 use Rattle.session_core.specs.Reading.{stage}
 use Rattle.session_core.proofs.Sessions.{served_nothing, turned, serves_on, reply_failed, halts, ended, cut, read_failed, breaks_at, framing_written, framing_failed, falls}
 use Rattle.session_core.proofs.session.serve.Goals as goal
@@ -26,7 +27,7 @@ loop-responder-preserved g c =
     let same : c.respond-back.result.0 ≡ c.next.new.decoder = c.respond-back.ensures.decoder in
     let stood : IsStanding c.respond-back.result.0 = subst IsStanding (sym same) c.in-Message.ensures.means in
     let written = rw c.in_default.is at c.say_reply.ensures.written in
-    let text = text_of c.respond-back.result.1.items c.respond-back.result.2 in
+    let text = reply_bytes c.respond-back.result.1.items c.respond-back.result.2 in
     record {
       served = serves_on _ _ _ (pair c.next.new.decoder.segments text) _ (g.L.Link.state c.say_reply.new.link)
           (stage c.next.new.self (g.L.Link.state c.next.new.link) c.next.new.decoder) _
@@ -45,7 +46,7 @@ pub returns-in-Err-clause-session : goal.returns-in-Err-clause-session
 returns-in-Err-clause-session g c =
     let written = rw c.in-Err.is at c.say_reply.ensures.written in
     let cause = rw c.in-Err.is at c.say_reply.ensures.cause.failed in
-    let text = text_of c.respond-back.result.1.items c.respond-back.result.2 in
+    let text = reply_bytes c.respond-back.result.1.items c.respond-back.result.2 in
     reply_failed _ _ _ (pair c.next.new.decoder.segments text) written.0 _ (g.L.Link.state c.next.new.link) _
     (stage c.next.new.self (g.L.Link.state c.next.new.link) c.next.new.decoder)
     c.each_stream_has_one_framing.ensures.some

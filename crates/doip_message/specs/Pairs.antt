@@ -1,8 +1,6 @@
--- Messages, each with the text of its reply.
+-- Messages, each with the text of the reply to it.
 use Rattle.std.specs.Prelude.{ℕ, List, map, flat_map}
 use Rattle.doip_segment.specs.Segments.{Segment}
-use Rattle.session_core.specs.declared.responder.Reply.{Reply}
-use Rattle.session_core.specs.declared.responder.Reply.TheVariants.{Made, Constant}
 
 -- A message, and the text of its reply.
 pub record Pair : Type 0 where
@@ -20,8 +18,3 @@ messages_of = map (λ p. p.message)
 -- the texts of the replies, in order, joined
 abbrev pub texts_of : List Pair → List ℕ
 texts_of = flat_map (λ p. p.text)
-
--- the text of a reply: what was made in the buffer, or the constant
-abbrev pub text_of : List ℕ → Reply → List ℕ
-text_of made Made = made
-text_of made (Constant text) = text.now
