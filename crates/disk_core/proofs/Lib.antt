@@ -1,3 +1,5 @@
+pub mod TornLaws
+pub mod RunLaws
 mod PastLemmas
 mod Lists
 mod TornLemmas

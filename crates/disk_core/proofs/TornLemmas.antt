@@ -1,35 +1,24 @@
--- Images under a write that a stop cuts short.
-use Rattle.std.proofs.Common.{◌≡◌, ℕ, ◌+◌, ◌-◌, ◌≤◌, ◌<◌, List, [], ◌∷◌, ◌++◌, length, get_or, take, drop, reverse, Bool, true, false, sym, ◌∙◌, ap, subst, arith, Some, Result, Ok, Err, OnOk, IfOk}
+-- Lists of images under a write that a crash cuts short.
+use Rattle.std.proofs.Common.{◌≡◌, ℕ, ◌+◌, ◌≤◌, ◌<◌, List, [], ◌∷◌, ◌++◌, length, get_or, take, reverse, Bool, true, false, sym, ◌∙◌, ap, subst, arith, Some, Result, Ok, Err, OnOk, IfOk}
 use Rattle.std.specs.Prelude.{slice_get}
 use Rattle.std.specs.List.{All, Contains}
-use Rattle.std.proofs.lemmas.List.{drop-drop, take_more, reverse-append}
+use Rattle.std.proofs.lemmas.List.{take_more, reverse-append}
 use Rattle.std.proofs.lemmas.List.Elements.{All-append, All-cons, All-nil, Contains-get_or, Contains-append_right}
 use Rattle.std.proofs.lemmas.Option.{get_or_from_slice_get}
-use Rattle.disk_core.specs.Disk.{written, Torn}
-use Rattle.disk_core.specs.Past.{Leaves, file_after, IsLeft, IsLeftAt}
-use Rattle.disk_core.specs.Torn.{IsTornOf, IsLeftBy}
-use Rattle.disk_core.specs.declared.record.DiskCall.{DiskCall}
-use Rattle.disk_core.specs.declared.record.DiskCall.TheVariants.{Length, ReadAt, WriteAt, Sync}
-use Rattle.disk_core.specs.declared.record.Noted.{Noted}
+use Rattle.disk_core.specs.Disk.{written}
+use Rattle.disk_core.specs.Past.{Leaves, file_after, IsImage, IsImageAt}
+use Rattle.disk_core.specs.Torn.{IsTornOf, IsImageBy}
+use Rattle.disk_core.specs.declared.calls.DiskCall.{DiskCall}
+use Rattle.disk_core.specs.declared.calls.DiskCall.TheVariants.{Length, ReadAt, WriteAt, Sync}
+use Rattle.disk_core.specs.declared.calls.Noted.{Noted}
 use Rattle.disk_core.specs.PastLaws.{torn_written, reads}
-
--- torn in a shorter range, torn in the range
-torn_wider : (place less n : ℕ) (old new : List ℕ) → less ≤ n → Torn place less old new → Torn place n old new
-torn_wider place less n old new le torn = record {
-  before = torn.before;
-  after =
-      let sum : (place + less) + (n - less) ≡ place + n = omega arith in
-      ap (λ (k : ℕ). drop k new) (sym sum) ∙ sym (drop-drop (n - less) (place + less) new) ∙ ap (λ (l : List ℕ). drop (n - less) l) torn.after
-      ∙ drop-drop (n - less) (place + less) old ∙ ap (λ (k : ℕ). drop k old) sum;
-  no_shorter = torn.no_shorter;
-  no_longer = omega (arith, torn.no_longer);
-}
+use Rattle.disk_core.proofs.TornLaws.{torn_inside}
 
 pub held : (xs : List (List ℕ)) (i : ℕ) (x : List ℕ) → i < length xs → slice_get xs i ≡ Some x → Contains xs x
 held xs i x within is = subst (Contains xs) (get_or_from_slice_get xs i x [] is) (Contains-get_or xs i [] within)
 
 pub torn_part : (before : List (List ℕ)) (old part : List ℕ) (place n : ℕ) → Contains before old → length part ≤ n → IsTornOf before place n (written place part old)
-torn_part before old part place n has le = (old, has, torn_wider place (length part) n old (written place part old) le (torn_written place part old))
+torn_part before old part place n has le = (old, has, torn_inside place n place (length part) old (written place part old) (omega arith) (omega (arith, le)) (torn_written place part old))
 
 -- more of them join
 pub joins : (P : List ℕ → Type 0) (images more later : List (List ℕ)) → later ≡ images ++ more → All P images → All P more → All P later
@@ -56,10 +45,10 @@ leaves_on Sync true place piece file P Q f image left = left
 leaves_on Sync false place piece file P Q f image left = f image left
 
 -- one call more, of images that all are left by the calls before
-pub all_left : (start : List ℕ) (history : List Noted) (noted : Noted) (before later : List (List ℕ)) (file : List ℕ) → file ≡ file_after start history → All (IsLeft start history) before → All (IsLeftBy noted file before) later
-    → All (IsLeft start (noted ∷ history)) later
+pub all_left : (start : List ℕ) (history : List Noted) (noted : Noted) (before later : List (List ℕ)) (file : List ℕ) → file ≡ file_after start history → All (IsImage start history) before → All (IsImageBy noted file before) later
+    → All (IsImage start (noted ∷ history)) later
 all_left start history noted before later file is all step = λ k d within.
-    leaves_on noted.call noted.done noted.place noted.bytes (file_after start history) (Contains before) (IsLeft start history) (λ i has. among (IsLeft start history) before i all has) (get_or later k d)
+    leaves_on noted.call noted.done noted.place noted.bytes (file_after start history) (Contains before) (IsImage start history) (λ i has. among (IsImage start history) before i all has) (get_or later k d)
     (subst (λ (f : List ℕ). Leaves noted.call noted.done noted.place noted.bytes f (Contains before) (get_or later k d)) is (step k d within))
 
 -- the record, one call longer
@@ -82,12 +71,12 @@ pub on_each : {T E : Type 0} (P Q : T → Type 0) (r : Result T E) → ((x : T) 
 on_each P Q (Ok x) f h = f x h
 on_each P Q (Err e) f h = h
 
--- the file itself, behind images that all are left
-pub with_file : (start : List ℕ) (calls : List Noted) (n : ℕ) (images later : List (List ℕ)) (file last : List ℕ) → n ≡ length calls → file ≡ file_after start (reverse (take n calls)) → All (IsLeft start (reverse (take n calls))) images
-    → last ≡ file → later ≡ images ++ last ∷ [] → All (IsLeftAt start calls (length calls)) later
+-- the file itself, after images that all are left
+pub with_file : (start : List ℕ) (calls : List Noted) (n : ℕ) (images later : List (List ℕ)) (file last : List ℕ) → n ≡ length calls → file ≡ file_after start (reverse (take n calls)) → All (IsImage start (reverse (take n calls))) images
+    → last ≡ file → later ≡ images ++ last ∷ [] → All (IsImageAt start calls (length calls)) later
 with_file start calls n images later file last end is all same more =
-    let P : List ℕ → Type 0 = IsLeft start (reverse (take n calls)) in
-    subst (λ (m : ℕ). All (IsLeft start (reverse (take m calls))) later) end
+    let P : List ℕ → Type 0 = IsImage start (reverse (take n calls)) in
+    subst (λ (m : ℕ). All (IsImage start (reverse (take m calls))) later) end
     (joins P images (last ∷ []) later more all (one P last (subst P (sym (same ∙ is)) (reads start (reverse (take n calls))))))
 
 pub has_last : (images later : List (List ℕ)) (file last : List ℕ) → file ≡ last → later ≡ images ++ last ∷ [] → Contains later file

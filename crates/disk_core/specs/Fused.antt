@@ -1,22 +1,33 @@
--- What a fused disk shows.
-use Rattle.std.specs.Prelude.{◌≡◌, ℕ, ◌-◌, ◌<◌, Result, OnErr, IsErr}
-use Rattle.disk_core.specs.Disk.{Rose}
+-- What contracts see of a fused disk.
+use Rattle.std.specs.Prelude.{◌≡◌, ℕ, ◌+◌, ◌-◌, ◌<◌, Result, OnErr, IsErr}
+use Rattle.base_core.specs.Causes.{Rose}
+use Rattle.disk_core.specs.Disk.{DiskState}
 use Rattle.disk_core.specs.declared.fused.FusedDisk.{FusedDisk}
 
 -- the disk inside
 abbrev pub inner_of : {D : Type 0} → FusedDisk D → D
 inner_of disk = disk.inner
 
--- how many calls it lets pass yet
+-- how many calls it still lets pass
 abbrev pub passes_of : {D : Type 0} → FusedDisk D → ℕ
 passes_of disk = disk.passes
 
--- how many it refused
+-- how many calls it refused
 abbrev pub refused_of : {D : Type 0} → FusedDisk D → ℕ
 refused_of disk = disk.refused
 
--- A call of a fused disk is a call of the disk inside as long as it lets one pass, and fails then.
-pub record Fuses {D T E : Type 0} (faults : D → ℕ) (old new : FusedDisk D) (result : Result T E) : Type 0 where
+-- the disk inside, with the refused calls as faults
+abbrev pub state_by : {D : Type 0} → (D → DiskState) → FusedDisk D → DiskState
+state_by state disk = record {
+  content = (state (inner_of disk)).content;
+  moment = (state (inner_of disk)).moment;
+  image_at = (state (inner_of disk)).image_at;
+  synced_at = (state (inner_of disk)).synced_at;
+  faults = (state (inner_of disk)).faults + refused_of disk;
+}
+
+-- As long as it lets a call pass, a fault is one of the disk inside. After that each call fails.
+pub record Fuses {D T E : Type 0} (state : D → DiskState) (old new : FusedDisk D) (result : Result T E) : Type 0 where
   pub passes : passes_of new ≡ passes_of old - 1
-  pub lets : 0 < passes_of old → OnErr result (Rose (faults (inner_of old)) (faults (inner_of new)))
+  pub lets : 0 < passes_of old → OnErr result (Rose (state (inner_of old)).faults (state (inner_of new)).faults)
   pub spent : passes_of old ≡ 0 → IsErr result

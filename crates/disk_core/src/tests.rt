@@ -61,7 +61,7 @@ fn a_listed_write_fails_and_may_be_torn(rt: HostRuntime) -> Result<(), Fail> {
 }
 
 #[test]
-fn a_fused_disk_stops_after_its_calls(rt: HostRuntime) -> Result<(), Fail> {
+fn a_fused_disk_fails_after_its_calls(rt: HostRuntime) -> Result<(), Fail> {
     let alloc = rt.alloc();
     let mut disk = FusedDisk::new(MemoryDisk::new(alloc, b"abc", &[])?, 2);
     let mut into = [0; 4];

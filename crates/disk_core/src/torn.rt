@@ -1,12 +1,13 @@
-//! Some of what a stop may make of a write, for tests to open.
+//! Some of what a crash may make of a write, for tests to open.
 ghost use Rattle.std.specs.Prelude.{◌≡◌, ◌/◌, ◌<◌, ℕ, List, ◌∷◌, ◌++◌, [], length, take, IfOk, OnOk};
 ghost use Rattle.std.specs.List.{All, Contains};
 ghost use Rattle.disk_core.specs.Disk.{written};
-ghost use Rattle.disk_core.specs.Torn.{IsTornOf, IsLeftBy};
+ghost use Rattle.disk_core.specs.Torn.{IsTornOf, IsImageBy};
 ghost use Rattle.disk_core.specs.Past.{file_by};
 
 use crate::memory::overwrite;
-use crate::{Bytes, DiskCall, Images, Noted};
+use crate::{DiskCall, Images, Noted};
+use base_core::{Bytes, Items};
 use std::alloc::{AllocError, Global};
 
 // Some of the images after a call, from some before it. The file goes on too.
@@ -16,8 +17,9 @@ pub(crate) fn images_after(
     file: &mut Vec<u8>,
     noted: &Noted,
 ) -> Result<Images, AllocError>
-    ensures file { OnOk result (file.new.items ≡ file_by noted.now.call noted.now.done noted.now.place noted.now.bytes file.old.items) }
-    ensures images { IfOk result (λ images. All (IsLeftBy noted.now file.old.items before.now) images) }
+    ensures file { OnOk result (file.new.items
+        ≡ file_by noted.now.call noted.now.done noted.now.place noted.now.bytes file.old.items) }
+    ensures images { IfOk result (λ images. All (IsImageBy noted.now file.old.items before.now) images) }
 {
     match (noted.call, noted.done) {
         (DiskCall::WriteAt, true) => {
@@ -27,7 +29,7 @@ pub(crate) fn images_after(
         }
         (DiskCall::WriteAt, false) => torn_images(alloc, before, noted.place, noted.bytes.get()),
         (DiskCall::Sync, true) => {
-            let mut images = Images::empty(alloc);
+            let mut images = Items::new(alloc);
             images.push(Bytes::of(alloc, file)?)?;
             Ok(images)
         }
@@ -39,14 +41,14 @@ pub(crate) fn images_after(
 fn copy_of(alloc: Global, before: &Images) -> Result<Images, AllocError>
     ensures { IfOk result (λ images. All (Contains before.now) images) }
 {
-    let mut images = Images::empty(alloc);
+    let mut images = Items::new(alloc);
     'rows: for index in 0..before.len() {
         images.push(Bytes::of(alloc, before.item(index).get())?)?;
     }
     Ok(images)
 }
 
-// What a stop may make of each of these images under a write.
+// What a crash may make of each of these images under a write.
 fn torn_images(
     alloc: Global,
     before: &Images,
@@ -55,7 +57,7 @@ fn torn_images(
 ) -> Result<Images, AllocError>
     ensures { IfOk result (λ images. All (IsTornOf before.now place (length piece.now)) images) }
 {
-    let mut images = Images::empty(alloc);
+    let mut images = Items::new(alloc);
     'rows: for index in 0..before.len() {
         push_torn(alloc, &mut images, before, index, place, piece)?;
     }
@@ -72,7 +74,8 @@ fn push_torn(
     piece: &[u8],
 ) -> Result<(), AllocError>
     requires { index < length before.now }
-    ensures { OnOk result (All (IsTornOf before.now place (length piece.now)) images.old → All (IsTornOf before.now place (length piece.now)) images.new) }
+    ensures { OnOk result (All (IsTornOf before.now place (length piece.now)) images.old
+        → All (IsTornOf before.now place (length piece.now)) images.new) }
 {
     let old = before.item(index).get();
     push_part(alloc, images, old, place, piece)?;
@@ -83,9 +86,10 @@ fn push_torn(
     }
 }
 
-// A byte may be any; four tell most.
+// A byte may be any; four are enough for tests of gates.
 fn push_byte(alloc: Global, images: &mut Images, old: &[u8], place: u64) -> Result<(), AllocError>
-    ensures { OnOk result (images.new ≡ images.old ++ written place (0 ∷ []) old.now ∷ written place (1 ∷ []) old.now ∷ written place (2 ∷ []) old.now ∷ written place (255 ∷ []) old.now ∷ []) }
+    ensures { OnOk result (images.new ≡ images.old ++ written place (0 ∷ []) old.now ∷ written place (1 ∷ []) old.now
+        ∷ written place (2 ∷ []) old.now ∷ written place (255 ∷ []) old.now ∷ []) }
 {
     push_part(alloc, images, old, place, &[0])?;
     push_part(alloc, images, old, place, &[1])?;
@@ -102,7 +106,8 @@ fn push_piece(
     piece: &[u8],
 ) -> Result<(), AllocError>
     ensures { OnOk result ((other : List ℕ) × (length other ≡ length piece.now)
-        × (images.new ≡ images.old ++ written place [] old.now ∷ written place (take (length piece.now / 2) piece.now) old.now ∷ written place other old.now ∷ [])) }
+        × (images.new ≡ images.old ++ written place [] old.now
+        ∷ written place (take (length piece.now / 2) piece.now) old.now ∷ written place other old.now ∷ [])) }
 {
     let other = vec![in alloc; 255; piece.len()]?;
     push_part(alloc, images, old, place, &[])?;

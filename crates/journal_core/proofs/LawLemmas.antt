@@ -4,10 +4,11 @@ use Rattle.std.proofs.lemmas.Bool.{cases_eq, cases_lt}
 use Rattle.std.proofs.lemmas.List.{get_or-drop, drop_more}
 use Rattle.std.specs.List.{flat_map}
 use Rattle.std.specs.Int.{w64, from_be_bytes}
-use Rattle.journal_core.specs.File.{big_endian, magic, HasHeader, base_of, inside_of, opened, listed, IsBroken, Meaning, holds, not_a_store, other_version, damaged, Means}
+use Rattle.journal_core.specs.Layout.{magic}
+use Rattle.journal_core.specs.File.{big_endian, HasHeader, base_of, inside_of, opened, listed, IsBroken, Meaning, holds, not_a_store, other_version, damaged, Means}
 use Rattle.journal_core.specs.OneMeaning.{EachFileHasOneMeaning}
 use Rattle.journal_core.proofs.Fields.{take_bytes, lacks_length, lacks_body, record_read}
-use Rattle.journal_core.proofs.Headers.{Cut, has_text, has_area, has_zeros, is_header, header_of_front, front_of_header, too_short}
+use Rattle.journal_core.proofs.Headers.{Cut, has_text, has_area, has_zeros, is_header, header_of_prefix, prefix_of_header, too_short}
 use Rattle.journal_core.proofs.Meanings.{one_area, one_list, length-inside}
 use Rattle.journal_core.proofs.Unique.{Ends, Follows, follows_on, closed_ends}
 
@@ -54,8 +55,8 @@ no_head a s e = cc
 
 broken_ends : (bodies : List (List ℕ)) (tail : List ℕ) → IsBroken bodies tail → Ends tail
 broken_ends bodies tail (inl none) body gate rest is = no_head 1 _ (sym is ∙ none.1)
-broken_ends bodies tail (inr behind) body gate rest is =
-    behind.2 body gate rest (ap (λ (l : List ℕ). drop 1 l) (sym behind.1 ∙ is) ∙ append_assoc (big_endian (length body)) body (gate ∷ rest))
+broken_ends bodies tail (inr suffix) body gate rest is =
+    suffix.2 body gate rest (ap (λ (l : List ℕ). drop 1 l) (sym suffix.1 ∙ is) ∙ append_assoc (big_endian (length body)) body (gate ∷ rest))
 
 broken_follows : (bodies : List (List ℕ)) (tail : List ℕ) → IsBroken bodies tail → Follows bodies tail
 broken_follows [] tail broken = tt
@@ -63,11 +64,11 @@ broken_follows (b ∷ bodies) tail (inl none) = absurd (cons_nil b bodies none.0
   where
     cons_nil : (x : List ℕ) (xs : List (List ℕ)) → x ∷ xs ≡ [] → ⊥
     cons_nil x xs e = cc
-broken_follows (b ∷ bodies) tail (inr behind) = (1, behind.0, behind.1)
+broken_follows (b ∷ bodies) tail (inr suffix) = (1, suffix.0, suffix.1)
 
 not_both : (bodies : List (List ℕ)) (tail : List ℕ) (gate : ℕ) (rest : List ℕ) → IsBroken bodies tail → gate ≢ 1 → gate ∷ rest ≡ tail → ⊥
 not_both bodies tail gate rest (inl none) shut is = no_head gate rest (is ∙ none.1)
-not_both bodies tail gate rest (inr behind) shut is = shut (head_same gate 1 rest behind.0 (is ∙ behind.1))
+not_both bodies tail gate rest (inr suffix) shut is = shut (head_same gate 1 rest suffix.0 (is ∙ suffix.1))
 
 module _ (file : List ℕ) (area side : ℕ) (most : area ≤ 268435456) where
   abbrev inside : List ℕ
@@ -131,9 +132,9 @@ drop_bytes : (n : ℕ) (xs : List ℕ) → Bytes xs → Bytes (drop n xs)
 unfolding Bytes
 drop_bytes n xs bytes i = subst (λ (b : ℕ). b < 256) (sym (get_or-drop n xs i 0)) (bytes (n + i))
 
-front_bytes : (n : ℕ) (xs : List ℕ) → Bytes xs → Bytes (take n xs)
+prefix_bytes : (n : ℕ) (xs : List ℕ) → Bytes xs → Bytes (take n xs)
 unfolding Bytes
-front_bytes n xs bytes i = take_bytes n xs bytes i
+prefix_bytes n xs bytes i = take_bytes n xs bytes i
 
 -- a file begins with a header or doesn't
 header_found : (file : List ℕ) → Bytes file → ((area : ℕ) × (side : ℕ) × HasHeader file area side) ⊎ ((area side : ℕ) → HasHeader file area side → ⊥)
@@ -145,30 +146,30 @@ header_found file bytes = elim (cases_lt (length file) 32) [
   where
     found : 32 ≤ length file → ((area : ℕ) × (side : ℕ) × HasHeader file area side) ⊎ ((area side : ℕ) → HasHeader file area side → ⊥)
     found long =
-        let front : List ℕ = take 32 file in
-        let size : length front ≡ 32 = omega (arith, length-take 32 file) in
-        let rest : List ℕ = drop 8 (drop 8 front) in
-        let rest_size : length rest ≡ 16 = omega (arith, length-drop 8 (drop 8 front), length-drop 8 front, size) in
+        let prefix : List ℕ = take 32 file in
+        let size : length prefix ≡ 32 = omega (arith, length-take 32 file) in
+        let rest : List ℕ = drop 8 (drop 8 prefix) in
+        let rest_size : length rest ≡ 16 = omega (arith, length-drop 8 (drop 8 prefix), length-drop 8 prefix, size) in
         let side_byte : ℕ = get_or rest 0 0 in
         let zeros : List ℕ = drop 1 rest in
-        let field : List ℕ = take 8 (drop 8 front) in
+        let field : List ℕ = take 8 (drop 8 prefix) in
         let area : ℕ = from_be_bytes w64 field in
         let rest_is : rest ≡ side_byte ∷ zeros = drop_more rest 0 0 (omega (arith, rest_size)) in
-        let cut : Cut front (take 8 front) field zeros side_byte = record { size = size; text_is = refl; field_is = refl; rest_is = rest_is } in
-        let none : ((a s : ℕ) → HasHeader front a s → ⊥) → (a s : ℕ) → HasHeader file a s → ⊥ = λ no a s has. no a s (front_of_header file front a s refl has) in
-        elim (lists (take 8 front) magic) [
-          | inr other ↦ inr (none (λ a s has. other (has_text front (take 8 front) field zeros side_byte cut a s has)))
+        let cut : Cut prefix (take 8 prefix) field zeros side_byte = record { size = size; text_is = refl; field_is = refl; rest_is = rest_is } in
+        let none : ((a s : ℕ) → HasHeader prefix a s → ⊥) → (a s : ℕ) → HasHeader file a s → ⊥ = λ no a s has. no a s (prefix_of_header file prefix a s refl has) in
+        elim (lists (take 8 prefix) magic) [
+          | inr other ↦ inr (none (λ a s has. other (has_text prefix (take 8 prefix) field zeros side_byte cut a s has)))
           | inl text ↦ elim (lists zeros (replicate 15 0)) [
-            | inr other ↦ inr (none (λ a s has. other (has_zeros front (take 8 front) field zeros side_byte cut a s has)))
+            | inr other ↦ inr (none (λ a s has. other (has_zeros prefix (take 8 prefix) field zeros side_byte cut a s has)))
             | inl zeros_is ↦ elim (cases_lt area 64) [
-              | inl low ↦ inr (none (λ a s has. absurd (omega (arith, has_area front (take 8 front) field zeros side_byte cut a s has, low, has.least))))
+              | inl low ↦ inr (none (λ a s has. absurd (omega (arith, has_area prefix (take 8 prefix) field zeros side_byte cut a s has, low, has.least))))
               | inr least ↦ elim (cases_lt 268435456 area) [
-                | inl high ↦ inr (none (λ a s has. absurd (omega (arith, has_area front (take 8 front) field zeros side_byte cut a s has, high, has.most))))
+                | inl high ↦ inr (none (λ a s has. absurd (omega (arith, has_area prefix (take 8 prefix) field zeros side_byte cut a s has, high, has.most))))
                 | inr most ↦ inl (
                   area,
                   side_byte % 2,
-                  header_of_front file front area (side_byte % 2) refl
-                      (is_header front (take 8 front) field zeros side_byte cut area (front_bytes 32 file bytes) refl text zeros_is least most),
+                  header_of_prefix file prefix area (side_byte % 2) refl
+                      (is_header prefix (take 8 prefix) field zeros side_byte cut area (prefix_bytes 32 file bytes) refl text zeros_is least most),
                 )
               ]
             ]
@@ -180,7 +181,7 @@ abbrev Read : List ℕ → Type 0
 Read rest = (bodies : List (List ℕ)) × (tail : List ℕ) × (rest ≡ flat_map opened bodies ++ tail)
     × (((gate : ℕ) × (more : List ℕ) × (tail ≡ gate ∷ more) × (gate ≢ 1)) ⊎ IsBroken bodies tail)
 
--- behind a whole record
+-- after a whole record
 goes_on : (body : List ℕ) (rest next : List ℕ) → rest ≡ opened body ++ next → next ≢ [] → Read next → Read rest
 goes_on body rest next is some (bodies, tail, read, ends) = (
   body ∷ bodies,
@@ -189,27 +190,27 @@ goes_on body rest next is some (bodies, tail, read, ends) = (
   elim ends [
     | inl closed ↦ inl closed
     | inr (inl none) ↦ absurd (some (read ∙ ap (λ (l : List (List ℕ)). flat_map opened l ++ tail) none.0 ∙ none.1))
-    | inr (inr behind) ↦ inr (inr behind)
+    | inr (inr suffix) ↦ inr (inr suffix)
   ],
 )
 
 read_all : (fuel : ℕ) (rest : List ℕ) → length rest ≤ fuel → fuel < 2 ^ 64 → Bytes rest → Read rest
 unfolding Bytes
 read_all fuel [] fits small bytes = ([], [], refl, inr (inl (refl, refl)))
-read_all zero (gate ∷ behind) fits small bytes = absurd (omega (arith, fits))
-read_all (suc fuel) (gate ∷ behind) fits small bytes = elim (cases_eq gate 1) [
-  | inr shut ↦ ([], gate ∷ behind, refl, inl (gate, behind, refl, shut))
-  | inl is_open ↦ elim (cases_lt (length behind) 8) [
-    | inl short ↦ ([], gate ∷ behind, refl, inr (inr (behind, ap (λ (g : ℕ). g ∷ behind) is_open, lacks_length behind short)))
-    | inr long ↦ elim (cases_lt (from_be_bytes w64 (take 8 behind)) (length (drop 8 behind))) [
+read_all zero (gate ∷ suffix) fits small bytes = absurd (omega (arith, fits))
+read_all (suc fuel) (gate ∷ suffix) fits small bytes = elim (cases_eq gate 1) [
+  | inr shut ↦ ([], gate ∷ suffix, refl, inl (gate, suffix, refl, shut))
+  | inl is_open ↦ elim (cases_lt (length suffix) 8) [
+    | inl short ↦ ([], gate ∷ suffix, refl, inr (inr (suffix, ap (λ (g : ℕ). g ∷ suffix) is_open, lacks_length suffix short)))
+    | inr long ↦ elim (cases_lt (from_be_bytes w64 (take 8 suffix)) (length (drop 8 suffix))) [
       | inr lacking ↦ (
         [],
-        gate ∷ behind,
+        gate ∷ suffix,
         refl,
         inr (inr (
-          behind,
-          ap (λ (g : ℕ). g ∷ behind) is_open,
-          lacks_body behind (take 8 behind) (drop 8 behind) (from_be_bytes w64 (take 8 behind)) refl refl refl lacking (omega (arith, fits, small)),
+          suffix,
+          ap (λ (g : ℕ). g ∷ suffix) is_open,
+          lacks_body suffix (take 8 suffix) (drop 8 suffix) (from_be_bytes w64 (take 8 suffix)) refl refl refl lacking (omega (arith, fits, small)),
         )),
       )
       | inl whole ↦ step (λ next le its. read_all fuel next le (omega (arith, small)) its) is_open long whole
@@ -217,16 +218,16 @@ read_all (suc fuel) (gate ∷ behind) fits small bytes = elim (cases_eq gate 1) 
   ]
 ]
   where
-    step : ((next : List ℕ) → length next ≤ fuel → Bytes next → Read next) → gate ≡ 1 → 8 ≤ length behind → from_be_bytes w64 (take 8 behind) < length (drop 8 behind) → Read (gate ∷ behind)
+    step : ((next : List ℕ) → length next ≤ fuel → Bytes next → Read next) → gate ≡ 1 → 8 ≤ length suffix → from_be_bytes w64 (take 8 suffix) < length (drop 8 suffix) → Read (gate ∷ suffix)
     step recurse is_open long whole =
-        let n : ℕ = from_be_bytes w64 (take 8 behind) in
-        let after : List ℕ = drop 8 behind in
-        let inner_bytes : Bytes behind = drop_bytes 1 (gate ∷ behind) bytes in
-        let size : length (take 8 behind) ≡ 8 = omega (arith, length-take 8 behind) in
-        let read = record_read behind (take 8 behind) after (take n after) (drop n after) n refl refl size (front_bytes 8 behind inner_bytes) refl refl refl whole in
-        goes_on (take n after) (gate ∷ behind) (drop n after) (ap (λ (g : ℕ). g ∷ behind) is_open ∙ ap (λ (l : List ℕ). 1 ∷ l) read)
+        let n : ℕ = from_be_bytes w64 (take 8 suffix) in
+        let after : List ℕ = drop 8 suffix in
+        let inner_bytes : Bytes suffix = drop_bytes 1 (gate ∷ suffix) bytes in
+        let size : length (take 8 suffix) ≡ 8 = omega (arith, length-take 8 suffix) in
+        let read = record_read suffix (take 8 suffix) after (take n after) (drop n after) n refl refl size (prefix_bytes 8 suffix inner_bytes) refl refl refl whole in
+        goes_on (take n after) (gate ∷ suffix) (drop n after) (ap (λ (g : ℕ). g ∷ suffix) is_open ∙ ap (λ (l : List ℕ). 1 ∷ l) read)
         (λ none. absurd (omega (arith, ap length none, length-drop n after, whole)))
-        (recurse (drop n after) (omega (arith, fits, length-drop n after, length-drop 8 behind)) (drop_bytes n after (drop_bytes 8 behind inner_bytes)))
+        (recurse (drop n after) (omega (arith, fits, length-drop n after, length-drop 8 suffix)) (drop_bytes n after (drop_bytes 8 suffix inner_bytes)))
 
 -- what lies inside an area has a meaning
 area_read : (inside : List ℕ) (base : ℕ) → length inside < 2 ^ 64 → Bytes inside → (m : Meaning) × InArea inside base m
@@ -250,7 +251,7 @@ each_file file bytes = elim (header_found file bytes) [
   | inl found ↦
       let area = found.0 in
       let side = found.1 in
-      let read = area_read (inside_of file area side) (base_of area side) (omega (arith, length-inside file area side, found.2.most)) (front_bytes area (drop (base_of area side) file) (drop_bytes (base_of area side) file bytes)) in
+      let read = area_read (inside_of file area side) (base_of area side) (omega (arith, length-inside file area side, found.2.most)) (prefix_bytes area (drop (base_of area side) file) (drop_bytes (base_of area side) file bytes)) in
       let means = outer file area side found.2 read.0 read.1 in
       (read.0, means, λ other also. one_meaning file other read.0 also means)
 ]

@@ -1,8 +1,9 @@
+mod Results
 mod Lists
 mod Parts
-mod Runs
 mod Unique
 mod Meanings
+mod Causes
 mod Commits
 mod Fields
 mod Headers

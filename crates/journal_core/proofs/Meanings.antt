@@ -9,12 +9,12 @@ use Rattle.journal_core.proofs.Unique.{big_endian_injective, records_same, Ends,
 -- a file has one header
 pub one_area : (file : List ℕ) (a s b t : ℕ) → HasHeader file a s → HasHeader file b t → (a ≡ b) × (s ≡ t)
 one_area file a s b t first second =
-    let same : header a first.side_byte ≡ header b second.side_byte = sym first.front ∙ second.front in
-    let behind : big_endian a ++ first.side_byte ∷ replicate 15 0 ≡ big_endian b ++ second.side_byte ∷ replicate 15 0 = ap (λ (l : List ℕ). drop 8 l) same in
+    let same : header a first.side_byte ≡ header b second.side_byte = sym first.prefix ∙ second.prefix in
+    let suffix : big_endian a ++ first.side_byte ∷ replicate 15 0 ≡ big_endian b ++ second.side_byte ∷ replicate 15 0 = ap (λ (l : List ℕ). drop 8 l) same in
     let numbers : big_endian a ≡ big_endian b =
-    sym (take_at (big_endian a) (first.side_byte ∷ replicate 15 0) 8 (length-big_endian a)) ∙ ap (λ (l : List ℕ). take 8 l) behind ∙ take_at (big_endian b) (second.side_byte ∷ replicate 15 0) 8 (length-big_endian b) in
+    sym (take_at (big_endian a) (first.side_byte ∷ replicate 15 0) 8 (length-big_endian a)) ∙ ap (λ (l : List ℕ). take 8 l) suffix ∙ take_at (big_endian b) (second.side_byte ∷ replicate 15 0) 8 (length-big_endian b) in
     let rests : first.side_byte ∷ replicate 15 0 ≡ second.side_byte ∷ replicate 15 0 =
-    sym (drop_at (big_endian a) (first.side_byte ∷ replicate 15 0) 8 (length-big_endian a)) ∙ ap (λ (l : List ℕ). drop 8 l) behind ∙ drop_at (big_endian b) (second.side_byte ∷ replicate 15 0) 8 (length-big_endian b) in
+    sym (drop_at (big_endian a) (first.side_byte ∷ replicate 15 0) 8 (length-big_endian a)) ∙ ap (λ (l : List ℕ). drop 8 l) suffix ∙ drop_at (big_endian b) (second.side_byte ∷ replicate 15 0) 8 (length-big_endian b) in
     let bytes : first.side_byte ≡ second.side_byte = ap (λ (l : List ℕ). get_or l 0 0) rests in
     (big_endian_injective a b (omega (arith, first.most)) (omega (arith, second.most)) numbers, first.side_is ∙ ap (λ (n : ℕ). n % 2) bytes ∙ sym second.side_is)
 

@@ -14,11 +14,11 @@ big_endian_injective m n small below is = sym (from_be_bytes-to_be_bytes_8 m sma
 tail_of : List ℕ → List ℕ
 tail_of l = drop 1 l
 
--- two open records, and what lies behind them
+-- two open records, and what lies after them
 pub opened_same : (a b x y : List ℕ) → length a < 2 ^ 64 → length b < 2 ^ 64 → opened a ++ x ≡ opened b ++ y → (a ≡ b) × (x ≡ y)
 opened_same a b x y small below is =
-    let behind : (big_endian (length a) ++ a) ++ x ≡ (big_endian (length b) ++ b) ++ y = ap (λ (l : List ℕ). drop 1 l) is in
-    let split : big_endian (length a) ++ (a ++ x) ≡ big_endian (length b) ++ (b ++ y) = sym (append_assoc (big_endian (length a)) a x) ∙ behind ∙ append_assoc (big_endian (length b)) b y in
+    let suffix : (big_endian (length a) ++ a) ++ x ≡ (big_endian (length b) ++ b) ++ y = ap (λ (l : List ℕ). drop 1 l) is in
+    let split : big_endian (length a) ++ (a ++ x) ≡ big_endian (length b) ++ (b ++ y) = sym (append_assoc (big_endian (length a)) a x) ∙ suffix ∙ append_assoc (big_endian (length b)) b y in
     let lengths : big_endian (length a) ≡ big_endian (length b) =
     sym (take_at (big_endian (length a)) (a ++ x) 8 (length-big_endian (length a))) ∙ ap (λ (l : List ℕ). take 8 l) split ∙ take_at (big_endian (length b)) (b ++ y) 8 (length-big_endian (length b)) in
     let long : length a ≡ length b = big_endian_injective (length a) (length b) small below lengths in
@@ -32,12 +32,12 @@ opened_same a b x y small below is =
 abbrev pub Ends : List ℕ → Type 0
 Ends tail = (body : List ℕ) (gate : ℕ) (rest : List ℕ) → tail ≢ opened body ++ gate ∷ rest
 
--- behind a record something stands
+-- after a record something stands
 abbrev pub Follows : List (List ℕ) → List ℕ → Type 0
 Follows [] tail = Unit {0}
 Follows (body ∷ bodies) tail = (gate : ℕ) × (rest : List ℕ) × (tail ≡ gate ∷ rest)
 
--- so does it behind the first record
+-- so does it after the first record
 begins : (bodies : List (List ℕ)) (tail : List ℕ) → (gate : ℕ) × (rest : List ℕ) × (tail ≡ gate ∷ rest) → (gate : ℕ) × (rest : List ℕ) × (flat_map opened bodies ++ tail ≡ gate ∷ rest)
 begins [] tail is = is
 begins (b ∷ bodies) tail is = (1, (big_endian (length b) ++ b ++ flat_map opened bodies) ++ tail, refl)

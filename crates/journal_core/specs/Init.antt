@@ -1,28 +1,60 @@
 -- What making a file leaves.
-use Rattle.std.specs.Prelude.{◌≡◌, ◌≢◌, ◌⊎◌, ◌↔◌, ℕ, ◌≤◌, ◌<◌, List, [], ◌∷◌, ◌++◌, length, drop}
-use Rattle.journal_core.specs.File.{header, Holds, IsNotAStore}
+use Rattle.std.specs.Prelude.{◌≡◌, ◌≢◌, ◌⊎◌, ℕ, ◌≤◌, ◌<◌, List, [], ◌∷◌, ◌++◌, length, drop}
+use Rattle.std.specs.Option.{ForSome}
+use Rattle.base_core.specs.Causes.{Rose}
+use Rattle.disk_core.specs.Disk.{DiskState, IsImageNow, IsSettled, SamePast, SameSyncs}
+use Rattle.disk_core.specs.Runs.{LeavesSince, LeavesAlone}
+use Rattle.journal_core.specs.Layout.{version, closed_gate}
+use Rattle.journal_core.specs.File.{header, HoldsAt, Holds, IsNotAStore}
 use Rattle.journal_core.specs.declared.create.InitFault.{InitFault}
 use Rattle.journal_core.specs.declared.create.InitFault.TheVariants.{NotEmpty, DiskFault}
 
--- the header of a new file, the version byte and a closed gate, with this byte in front
+-- the header of a new file, the version byte and a closed gate, with this byte as the first
 abbrev pub new_file : ℕ → ℕ → List ℕ
-new_file first area = first ∷ (drop 1 (header area 0) ++ 1 ∷ 0 ∷ [])
+new_file first area = first ∷ (drop 1 (header area 0) ++ version ∷ closed_gate ∷ [])
+
+-- the bytes of a new file
+abbrev pub new_length : ℕ
+new_length = 34
 
 -- what each refusal says of the file
 abbrev pub IsInitCause : List ℕ → InitFault → Type 0
 IsInitCause file (NotEmpty count) = (count ≡ length file) × (file ≢ [])
 IsInitCause file DiskFault = Unit {0}
 
-module _ {D : Type 0} (moment : D → ℕ) (left_at : D → ℕ → List ℕ → Type 0) (synced : D → ℕ → Type 0) where
-  -- A file is made in an empty one, from `old` to `new`. From the first sync of that run on, each image is no store or
-  -- holds the empty list. None has more than the 34 bytes that were first written, if each was empty at the beginning.
-  pub record Founds (old new : D) : Type 0 where
-    pub later : moment old ≤ moment new
-    pub same : (time : ℕ) (image : List ℕ) → time ≤ moment old → left_at old time image ↔ left_at new time image
-    pub same_syncs : (time : ℕ) → time ≤ moment old → synced old time ↔ synced new time
-    pub small : ((image : List ℕ) → left_at old (moment old) image → image ≡ []) → (time : ℕ) (image : List ℕ) → moment old ≤ time → time ≤ moment new → left_at new time image → length image ≤ 34
-    pub from : (since : ℕ) → moment old < since → synced new since → (time : ℕ) (image : List ℕ) → since ≤ time → time ≤ moment new → left_at new time image → IsNotAStore image ⊎ Holds image []
+-- each image of the disk is the empty file
+abbrev pub IsBlank : DiskState → Type 0
+IsBlank state = (image : List ℕ) → IsImageNow state image → image ≡ []
+
+-- A file is made in an empty one, from `old` to `new`. From the first sync of that run on, each image is no store or
+-- holds the empty list. None has more bytes than were first written, if each was empty at the beginning.
+pub record Founds (old new : DiskState) : Type 0 where
+  pub later : old.moment ≤ new.moment
+  pub same : SamePast old new
+  pub same_syncs : SameSyncs old new
+  pub small : IsBlank old → LeavesSince new old.moment (λ image. length image ≤ new_length)
+  pub from : (since : ℕ) → old.moment < since → new.synced_at since
+      → LeavesSince new since (λ image. IsNotAStore image ⊎ Holds image [])
 
 -- a sync succeeded in that run
-abbrev pub HasSynced : {D : Type 0} → (D → ℕ) → (D → ℕ → Type 0) → D → D → Type 0
-HasSynced moment synced old new = (time : ℕ) × (moment old < time) × (time ≤ moment new) × synced new time
+abbrev pub HasSynced : DiskState → DiskState → Type 0
+HasSynced old new = (moment : ℕ) × (old.moment < moment) × (moment ≤ new.moment) × new.synced_at moment
+
+-- The file was empty, and holds the empty list now. A sync succeeded, and every image is the file.
+pub record MakesFile (before after : DiskState) (area : ℕ) : Type 0 where
+  pub empty : ForSome before.content (λ file. file ≡ [])
+  pub holds : ForSome after.content (λ file. HoldsAt file area 0 [])
+  pub settled : IsSettled after
+  pub crash : ForSome after.content (λ _. Founds before after × HasSynced before after)
+  pub count : before.faults ≤ after.faults
+
+-- `NotEmpty` comes exactly when the file's length isn't 0, and then nothing was written; so does nothing change in any
+-- file that has bytes. The only other fault is the disk's, which has counted it.
+pub record IsInitRefused (before after : DiskState) (refusal : InitFault) : Type 0 where
+  pub cause : ForSome before.content (λ file. IsInitCause file refusal)
+  pub unchanged : (count : ℕ) → refusal ≡ NotEmpty count → (0 < count) × LeavesAlone before after
+  pub spared : ForSome before.content (λ file. file ≢ [] → LeavesAlone before after)
+  pub disk_fault : refusal ≡ DiskFault → Rose before.faults after.faults
+  pub crash : refusal ≡ DiskFault
+      → ForSome after.content (λ _. ForSome before.content (λ file. file ≡ [] → Founds before after))
+  pub counted : before.faults ≤ after.faults

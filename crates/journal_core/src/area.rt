@@ -1,17 +1,12 @@
-//! What stands in an area: a version byte, and a record for each body.
+//! What an area contains: a version byte, and a record for each body.
 ghost use Rattle.std.specs.Prelude.{◌≡◌, ◌≢◌, ◌+◌, ◌-◌, ◌<◌, ◌≤◌, ◌++◌, [], ◌∷◌, ℕ, List, length, IfOk, IfErr};
 ghost use Rattle.journal_core.specs.File.{listed};
-ghost use Rattle.journal_core.specs.Area.{IsRead, Refuses, StandsAt};
+ghost use Rattle.journal_core.specs.Area.{IsRead, Refuses, IsNext};
 
 use crate::Records;
-use disk_core::Bytes;
+use crate::layout::{OPEN_GATE, VERSION};
+use base_core::{Bytes, Items};
 use std::alloc::{AllocError, Global};
-
-/// The version byte of an area.
-pub(crate) const VERSION: u8 = 1;
-
-/// The gate of a record that counts.
-pub(crate) const OPEN: u8 = 1;
 
 // Why an area holds no list.
 #[derive(Clone, Copy, Debug, PartialEq, Eq)]
@@ -32,14 +27,14 @@ impl From<AllocError> for AreaFault {
     }
 }
 
-// What stands at a gate's place.
+// What is at a gate's place.
 enum Next<'a> {
     Closed,
     Broken,
     Open { body: &'a [u8], after: &'a [u8] },
 }
 
-// The bodies of an area, and how many bytes stand before its closed gate.
+// The bodies of an area, and how many bytes there are before its closed gate.
 pub(crate) fn read_area(alloc: Global, inside: &[u8]) -> Result<(Records, usize), AreaFault>
     ensures read { IfOk result (λ read. IsRead inside.now read.0 read.1) }
     ensures refused { IfErr result (λ fault. Refuses inside.now fault) }
@@ -50,7 +45,7 @@ pub(crate) fn read_area(alloc: Global, inside: &[u8]) -> Result<(Records, usize)
     if *version != VERSION {
         return Err(AreaFault::Version { byte: *version });
     }
-    let mut bodies = Records::empty(alloc);
+    let mut bodies = Items::new(alloc);
     'records: loop {
         let place = inside.len() - rest.len();
         match next_record(rest) {
@@ -64,23 +59,23 @@ pub(crate) fn read_area(alloc: Global, inside: &[u8]) -> Result<(Records, usize)
     }
 }
 
-// What stands at the front: a closed gate, an open one with a whole record and the next gate behind it, or neither.
+// What comes first: a closed gate, an open one with a whole record and the next gate after it, or neither.
 fn next_record(rest: &[u8]) -> Next<'_>
-    ensures { StandsAt rest.now result }
+    ensures { IsNext rest.now result }
 {
-    let Some((gate, behind)) = rest.split_first() else {
+    let Some((gate, suffix)) = rest.split_first() else {
         return Next::Broken;
     };
-    if *gate != OPEN {
+    if *gate != OPEN_GATE {
         return Next::Closed;
     }
-    let Some((field, behind)) = behind.split_first_chunk::<8>() else {
+    let Some((field, suffix)) = suffix.split_first_chunk::<8>() else {
         return Next::Broken;
     };
     let length = u64::from_be_bytes(*field);
-    if length >= behind.len() as u64 {
+    if length >= suffix.len() as u64 {
         return Next::Broken;
     }
-    let (body, after) = behind.split_at(length as usize);
+    let (body, after) = suffix.split_at(length as usize);
     Next::Open { body, after }
 }

@@ -1,13 +1,16 @@
 //! Making a journal in an empty file.
-ghost use Rattle.std.specs.Prelude.{◌≡◌, ◌≢◌, ◌≤◌, ◌<◌, ◌^◌, ◌+◌, ℕ, List, [], Some, IsSome, length, IfOk, IfErr, OnOk, OnErr, IsOk, MatchResult};
+ghost use Rattle.std.specs.Prelude.{◌≡◌, ◌≤◌, [], IsSome, IfOk, IfErr, OnOk};
 ghost use Rattle.std.specs.Option.{ForSome};
-ghost use Rattle.disk_core.specs.Disk.{written, Torn, Same, Syncs, IsSettled, Rose, HasCause};
+ghost use Rattle.base_core.specs.Causes.{HasCause};
+ghost use Rattle.disk_core.specs.Disk.{IsSettled};
+ghost use Rattle.journal_core.specs.Layout.{least_area, most_area};
 ghost use Rattle.journal_core.specs.File.{HoldsAt};
-ghost use Rattle.journal_core.specs.Stops.{Run};
-ghost use Rattle.journal_core.specs.Init.{new_file, IsInitCause, Founds, HasSynced};
+ghost use Rattle.journal_core.specs.Init.{new_file, Founds, HasSynced, MakesFile, IsInitRefused};
 
-use crate::area::VERSION;
-use disk_core::{Disk, Failed};
+use crate::layout::VERSION;
+use crate::steps::write_durably;
+use base_core::Failed;
+use disk_core::Disk;
 use thiserror::Error;
 
 /// Why no journal was made in a file.
@@ -34,32 +37,12 @@ fn first_bytes(area: u64) -> [u8; 34]
 
 /// Makes a journal of areas of this length in an empty file. It takes no memory.
 ///
-/// Until the first sync the file says nothing. The text at its front is whole only once all else of the file lasts.
+/// Until the first sync the file may be anything. The text at its beginning is whole only once all else is durable.
 pub fn init<D: Disk>(disk: D, area: u64) -> Result<D, (D, InitFault)>
-    requires least { 64 ≤ area }
-    requires most { area ≤ 268435456 }
-
-    // NotEmpty exactly where the file's length isn't 0, and then nothing was written.
-    ensures empty { OnOk result (ForSome (D.content disk) (λ file. file ≡ [])) }
-    ensures refused { IfErr result (λ refusal. ForSome (D.content disk) (λ file. IsInitCause file refusal.1)) }
-    ensures unchanged { IfErr result (λ refusal. (length : ℕ) → refusal.1 ≡ InitFault.NotEmpty length → (0 < length)
-        × ForSome (D.content refusal.0) (λ file. D.content disk ≡ Some file) × Run D.content D.moment D.left_at disk refusal.0 Same) }
-
-    // Whatever the refusal, a file with bytes stays as it was, and so do its images.
-    ensures spared { IfErr result (λ refusal. ForSome (D.content disk) (λ file. file ≢ []
-        → ForSome (D.content refusal.0) (λ later. D.content disk ≡ Some later) × Run D.content D.moment D.left_at disk refusal.0 Same)) }
-
-    // The only other fault is the disk's, which has counted it.
-    ensures disk_fault { IfErr result (λ refusal. refusal.1 ≡ InitFault.DiskFault → Rose (D.faults disk) (D.faults refusal.0)) }
-    ensures count { MatchResult result (λ made. D.faults disk ≤ D.faults made) (λ refusal. D.faults disk ≤ D.faults refusal.0) }
-
-    // At Ok every image is the file, and it holds the empty list.
-    ensures made { IfOk result (λ made. ForSome (D.content made) (λ file. HoldsAt file area 0 [])) }
-    ensures settled { IfOk result (λ made. IsSettled (D.content made) (D.left_at made (D.moment made))) }
-
-    // From its first sync that succeeded on, each image is no store or holds the empty list.
-    ensures any_moment { IfOk result (λ made. ForSome (D.content made) (λ _. Founds D.moment D.left_at D.synced disk made × HasSynced D.moment D.synced disk made)) }
-    ensures any_moment_err { IfErr result (λ refusal. refusal.1 ≡ InitFault.DiskFault → ForSome (D.content refusal.0) (λ _. ForSome (D.content disk) (λ file. file ≡ [] → Founds D.moment D.left_at D.synced disk refusal.0))) }
+    requires least { least_area ≤ area }
+    requires most { area ≤ most_area }
+    ensures made { IfOk result (λ made. MakesFile (D.state disk) (D.state made) area) }
+    ensures refused { IfErr result (λ refusal. IsInitRefused (D.state disk) (D.state refusal.0) refusal.1) }
 {
     let mut disk = disk;
     match disk.length() {
@@ -75,31 +58,19 @@ pub fn init<D: Disk>(disk: D, area: u64) -> Result<D, (D, InitFault)>
 
 // Writes a new file into an empty one: all but the first byte, and then that byte.
 fn write_new<D: Disk>(disk: &mut D, area: u64) -> Result<(), Failed>
-    requires least { 64 ≤ area }
-    requires most { area ≤ 268435456 }
-    ensures made { OnOk result (ForSome (D.content disk.old) (λ file. file ≡ [] → ForSome (D.content disk.new) (λ new. HoldsAt new area 0 []))) }
-    ensures settled { OnOk result (IsSettled (D.content disk.new) (D.left_at disk.new (D.moment disk.new))) }
-    ensures told { ForSome (D.content disk.new) (λ _. IsSome (D.content disk.old)) }
-    ensures any_moment { ForSome (D.content disk.new) (λ _. ForSome (D.content disk.old) (λ file. file ≡ []
-        → Founds D.moment D.left_at D.synced disk.old disk.new × OnOk result (HasSynced D.moment D.synced disk.old disk.new))) }
-    ensures cause { HasCause (D.faults disk.old) (D.faults disk.new) result }
+    requires least { least_area ≤ area }
+    requires most { area ≤ most_area }
+    ensures holds { OnOk result (ForSome (D.state disk.old).content (λ file. file ≡ []
+        → ForSome (D.state disk.new).content (λ new. HoldsAt new area 0 []))) }
+    ensures settled { OnOk result (IsSettled (D.state disk.new)) }
+    ensures reported { ForSome (D.state disk.new).content (λ _. IsSome (D.state disk.old).content) }
+    ensures crash { ForSome (D.state disk.new).content (λ _. ForSome (D.state disk.old).content (λ file. file ≡ []
+        → Founds (D.state disk.old) (D.state disk.new)
+        × OnOk result (HasSynced (D.state disk.old) (D.state disk.new)))) }
+    ensures cause { HasCause (D.state disk.old).faults (D.state disk.new).faults result }
 {
     let bytes = first_bytes(area);
-    put(disk, 0, &bytes)?;
-    // The text is whole only now that all behind it lasts.
-    put(disk, 0, b"D")
-}
-
-// Writes a piece, and makes it last.
-pub(crate) fn put<D: Disk>(disk: &mut D, place: u64, piece: &[u8]) -> Result<(), Failed>
-    requires { place + length piece.now < 2 ^ 62 }
-    ensures written { OnOk result (ForSome (D.content disk.old) (λ file. D.content disk.new ≡ Some (written place piece.now file))) }
-    ensures settled { OnOk result (IsSettled (D.content disk.new) (D.left_at disk.new (D.moment disk.new))) }
-    ensures stop { Run D.content D.moment D.left_at disk.old disk.new (Torn place (length piece.now)) }
-    ensures clock { ForSome (D.content disk.new) (λ _. D.moment disk.old < D.moment disk.new) }
-    ensures syncs { ForSome (D.content disk.new) (λ _. Syncs (D.moment disk.old) (D.synced disk.old) (D.synced disk.new) (λ time. IsOk result × (time ≡ D.moment disk.new))) }
-    ensures cause { HasCause (D.faults disk.old) (D.faults disk.new) result }
-{
-    disk.write_at(place, piece)?;
-    disk.sync()
+    write_durably(disk, 0, &bytes)?;
+    // The text is whole only now that all after it is durable.
+    write_durably(disk, 0, b"D")
 }

@@ -1,16 +1,13 @@
-//! The journal: bodies in a file, each of them lasting before it is acknowledged.
-ghost use Rattle.std.specs.Prelude.{◌≡◌, ◌⊎◌, ◌*◌, ◌+◌, ◌^◌, ◌<◌, ◌≤◌, ◌↔◌, ◌++◌, [], ◌∷◌, List, ℕ, Some, length, IsSome, IfOk, IfErr, MatchResult, OnOk, OnErr, IsErrOf};
-ghost use Rattle.std.specs.Option.{ForSome};
-ghost use Rattle.disk_core.specs.Disk.{written, Same, Torn, IsSettled, Rose, HasCause};
-ghost use Rattle.journal_core.specs.File.{staged_record, listed, HoldsAt};
-ghost use Rattle.journal_core.specs.Stops.{Run, LeavesOnly, LeavesSince};
+//! The journal: bodies in a file, each of them durable before it is acknowledged.
+ghost use Rattle.std.specs.Prelude.{◌≡◌, ◌<◌, ◌≤◌, IfOk, IfErr};
+ghost use Rattle.journal_core.specs.Layout.{most_area};
 
-use crate::area::OPEN;
-use crate::create::put;
-use crate::header::HEADER_LENGTH;
+use crate::layout::{HEADER_LENGTH, OPEN_GATE};
 use crate::open::{Found, read_file};
+use crate::steps::{stage, write_durably};
 use crate::{Moment, OpenFault, Records};
-use disk_core::{Disk, Failed};
+use base_core::Failed;
+use disk_core::Disk;
 use std::alloc::Global;
 use thiserror::Error;
 
@@ -38,7 +35,9 @@ impl From<Failed> for CommitFault {
 /// How much of an area is used.
 #[derive(Clone, Copy, Debug, PartialEq, Eq)]
 pub struct Room {
+    /// The bytes before the closed gate.
     pub used: u64,
+    /// The length of the area.
     pub area: u64,
 }
 
@@ -50,34 +49,24 @@ pub struct Journal<D: Disk> {
     side: u8,
     used: u64,
     ghost within: { used ≤ area },
-    ghost bounded: { area ≤ 268435456 },
+    ghost bounded: { area ≤ most_area },
     ghost either: { side < 2 },
 }
 
 impl<D: Disk> Journal<D> {
-    ghost use Rattle.journal_core.specs.Journal.{disk_of, area_of, side_of, used_of, IsReady, HoldsEither};
-    ghost use Rattle.journal_core.specs.Open.{IsCauseOf};
+    ghost use Rattle.std.specs.Prelude.{List, ℕ};
+    ghost use Rattle.journal_core.specs.Journal.{disk_of, area_of, side_of, used_of};
+    ghost use Rattle.journal_core.specs.Journal.{HasCommitCause, SurvivesCommit, Adds, StaysInPlace};
+    ghost use Rattle.journal_core.specs.Open.{Opens, IsRefused};
 
-    /// Opens the journal in a file that a stop may have left. It reads the file once and writes nothing, and hands the
-    /// disk back where it refuses.
+    /// Opens the journal in a file that a crash may have left. It reads the file once and writes nothing, and hands the
+    /// disk back if it refuses.
     ///
-    /// It answers the bodies that the file holds, in order. `NotAStore`, `Version` and `Damaged` come exactly where the
-    /// file's bytes say so; `DiskFault` only where the disk failed in this call.
+    /// It returns the bodies that the file holds, in order. `NotAStore`, `Version` and `Damaged` come exactly when the
+    /// file's bytes say so; `DiskFault` only if the disk failed in this call.
     pub fn open(alloc: Global, disk: D) -> Result<(Journal<D>, Records), (D, OpenFault)>
-        ensures holds { IfOk result (λ opened. ForSome (D.content disk) (λ file. HoldsAt file (area_of opened.0) (side_of opened.0) opened.1)) }
-        ensures used { IfOk result (λ opened. ForSome (D.content disk) (λ _. used_of opened.0 ≡ length (listed opened.1))) }
-        ensures refused { IfErr result (λ refusal. ForSome (D.content disk) (λ file. IsCauseOf file refusal.1)) }
-        ensures disk_fault { IfErr result (λ refusal. refusal.1 ≡ OpenFault.DiskFault → Rose (D.faults disk) (D.faults refusal.0)) }
-        ensures count { MatchResult result (λ opened. D.faults disk ≤ D.faults (disk_of opened.0)) (λ refusal. D.faults disk ≤ D.faults refusal.0) }
-
-        // Over a settled disk the journal is ready.
-        ensures ready { IsSettled (D.content disk) (D.left_at disk (D.moment disk)) → IfOk result (λ opened. IsReady opened.0) }
-
-        // The file and its images stay as they were.
-        ensures kept { IfOk result (λ opened. D.content (disk_of opened.0) ≡ D.content disk) }
-        ensures kept_err { IfErr result (λ refusal. ForSome (D.content refusal.0) (λ file. D.content disk ≡ Some file)) }
-        ensures stop { IfOk result (λ opened. Run D.content D.moment D.left_at disk (disk_of opened.0) Same) }
-        ensures stop_err { IfErr result (λ refusal. Run D.content D.moment D.left_at disk refusal.0 Same) }
+        ensures opened { IfOk result (λ opened. Opens (D.state disk) opened.0 opened.1) }
+        ensures refused { IfErr result (λ refusal. IsRefused (D.state disk) (D.state refusal.0) refusal.1) }
     {
         let mut disk = disk;
         match read_file(alloc, &mut disk) {
@@ -99,37 +88,12 @@ impl<D: Disk> Journal<D> {
         }
     }
 
-    /// Adds a body, and answers once it lasts. It takes no memory.
+    /// Adds a body, and returns once it is durable. It takes no memory.
     pub fn commit(&mut self, body: &[u8]) -> Result<Moment, CommitFault>
-        requires ready { IsReady self.old }
-
-        // Full exactly where the record and the next gate don't fit, and then nothing was written.
-        ensures full { IsErrOf result (CommitFault.Full (used_of self.old) (length body.now + 10)) ↔ (area_of self.old < used_of self.old + (length body.now + 10)) }
-        ensures unchanged { area_of self.old < used_of self.old + (length body.now + 10) → self.new ≡ self.old }
-
-        // The only other fault is the disk's, which has counted it.
-        ensures others { IfErr result (λ fault. (fault ≡ CommitFault.DiskFault) ⊎ (fault ≡ CommitFault.Full (used_of self.old) (length body.now + 10))) }
-        ensures disk_fault { IsErrOf result CommitFault.DiskFault → Rose (D.faults (disk_of self.old)) (D.faults (disk_of self.new)) }
-        ensures count { D.faults (disk_of self.old) ≤ D.faults (disk_of self.new) }
-
-        // A stop at any moment of the call leaves the list from before it, with the body or without.
-        ensures any_moment { ForSome (D.content (disk_of self.new)) (λ _. ForSome (D.content (disk_of self.old)) (λ file.
-            (bodies : List (List ℕ)) → HoldsAt file (area_of self.old) (side_of self.old) bodies
-            → LeavesOnly D.moment D.left_at (disk_of self.old) (disk_of self.new) (HoldsEither (area_of self.old) (side_of self.old) bodies body.now))) }
-        ensures told { ForSome (D.content (disk_of self.new)) (λ _. IsSome (D.content (disk_of self.old))) }
-
-        // At Ok every image is the file, and the file has the body.
-        ensures ready { OnOk result (IsReady self.new) }
-        ensures added { OnOk result (ForSome (D.content (disk_of self.old)) (λ file. (bodies : List (List ℕ)) → HoldsAt file (area_of self.old) (side_of self.old) bodies
-            → ForSome (D.content (disk_of self.new)) (λ later. HoldsAt later (area_of self.old) (side_of self.old) (bodies ++ body.now ∷ [])))) }
-        ensures moment { IfOk result (λ moment. moment.number ≡ D.moment (disk_of self.new)) }
-        ensures lasts { IfOk result (λ moment. ForSome (D.content (disk_of self.new)) (λ _. ForSome (D.content (disk_of self.old)) (λ file.
-            (bodies : List (List ℕ)) → HoldsAt file (area_of self.old) (side_of self.old) bodies
-            → LeavesSince D.moment D.left_at (disk_of self.new) moment.number
-            (λ image. HoldsAt image (area_of self.old) (side_of self.old) (bodies ++ body.now ∷ []))))) }
-        ensures used { OnOk result (used_of self.new ≡ used_of self.old + (9 + length body.now)) }
-        ensures area { area_of self.new ≡ area_of self.old }
-        ensures side { side_of self.new ≡ side_of self.old }
+        ensures cause { HasCommitCause self.old self.new body.now result }
+        ensures crash { SurvivesCommit self.old self.new body.now }
+        ensures added { IfOk result (λ moment. Adds self.old self.new body.now moment.number) }
+        ensures place { StaysInPlace self.old self.new }
     {
         let length = body.len() as u64;
         if self.area - self.used < length + 10 {
@@ -140,8 +104,8 @@ impl<D: Disk> Journal<D> {
         }
         let gate = HEADER_LENGTH + self.side as u64 * self.area + self.used;
         stage(&mut self.disk, gate + 1, body)?;
-        // An open gate vouches for the record behind it and for the closed gate after that: both last by now.
-        put(&mut self.disk, gate, &[OPEN])?;
+        // An open gate vouches for the record after it and for the closed gate after that: both are durable by now.
+        write_durably(&mut self.disk, gate, &[OPEN_GATE])?;
         self.used += 9 + length;
         Ok(Moment::of(&self.disk))
     }
@@ -176,19 +140,4 @@ impl<D: Disk> Journal<D> {
         } = self;
         disk
     }
-}
-
-// Writes the length of a body, the body and a closed gate, one behind the other, and makes them last.
-fn stage<D: Disk>(disk: &mut D, place: u64, body: &[u8]) -> Result<(), Failed>
-    requires { place + length body.now < 2 ^ 61 }
-    ensures written { OnOk result (ForSome (D.content disk.old) (λ file. D.content disk.new ≡ Some (written place (staged_record body.now) file))) }
-    ensures settled { OnOk result (IsSettled (D.content disk.new) (D.left_at disk.new (D.moment disk.new))) }
-    ensures stop { Run D.content D.moment D.left_at disk.old disk.new (Torn place (length (staged_record body.now))) }
-    ensures cause { HasCause (D.faults disk.old) (D.faults disk.new) result }
-{
-    let length = body.len() as u64;
-    disk.write_at(place, &length.to_be_bytes())?;
-    disk.write_at(place + 8, body)?;
-    disk.write_at(place + 8 + length, &[0])?;
-    disk.sync()
 }

@@ -23,7 +23,7 @@ unsafe impl Sync for Moment {}
 impl Moment {
     // The disk's clock now.
     pub(crate) fn of<D: Disk>(_disk: &D) -> Moment
-        ensures { result.number ≡ D.moment _disk.now }
+        ensures { result.number ≡ (D.state _disk.now).moment }
     {
         Moment {}
     }

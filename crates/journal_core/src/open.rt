@@ -1,25 +1,28 @@
 //! Opening a journal: its file is read once, and nothing is written.
-ghost use Rattle.std.specs.Prelude.{◌≡◌, ◌⊎◌, ◌+◌, ◌^◌, ◌<◌, ◌≤◌, ℕ, List, Some, length, take, drop, IfOk, IfSome, IfErr, OnOk, OnErr, IsErrOf, MatchOption};
+ghost use Rattle.std.specs.Prelude.{◌≡◌, ◌⊎◌, ◌+◌, ◌^◌, ◌<◌, ◌≤◌, ℕ, length, take, drop, IfOk, IfSome, IfErr, OnOk, IsErrOf, MatchOption};
 ghost use Rattle.std.specs.Option.{ForSome};
-ghost use Rattle.disk_core.specs.Disk.{Same, Rose, HasCause};
+ghost use Rattle.base_core.specs.Causes.{Rose, HasCause};
+ghost use Rattle.disk_core.specs.Runs.{LeavesAlone};
+ghost use Rattle.journal_core.specs.Layout.{most_area};
 ghost use Rattle.journal_core.specs.File.{HasHeader};
-ghost use Rattle.journal_core.specs.Open.{Answers, IsInBounds, IsPlaced, refusal_of};
-ghost use Rattle.journal_core.specs.Stops.{Run};
+ghost use Rattle.journal_core.specs.Open.{IsFoundIn, IsInBounds, IsPlaced, refusal_of};
 
 use crate::Records;
 use crate::area::{AreaFault, read_area};
-use crate::header::{HEADER_LENGTH, Header, header_of};
-use disk_core::{Disk, Failed};
+use crate::header::{Header, header_of};
+use crate::layout::HEADER_LENGTH;
+use base_core::Failed;
+use disk_core::Disk;
 use std::alloc::{AllocError, Global};
 
 /// Why a file was not opened.
 #[derive(Clone, Copy, Debug, PartialEq, Eq)]
 pub enum OpenFault {
-    /// No header stands at its front, or it ends before the version byte.
+    /// It begins with no header, or ends before the version byte.
     NotAStore,
     /// The version byte is another one.
     Version { byte: u8 },
-    /// At this place of the file a gate is missing, or it is open and no whole record stands behind it.
+    /// At this place of the file a gate is missing, or it is open and no whole record follows.
     Damaged { place: u64 },
     /// The disk failed.
     DiskFault,
@@ -56,13 +59,11 @@ pub(crate) struct Found {
 
 // Reads a file from its header to the closed gate.
 pub(crate) fn read_file<D: Disk>(alloc: Global, disk: &mut D) -> Result<Found, OpenFault>
-    ensures meaning { ForSome (D.content disk.old) (λ file. Answers file result) }
+    ensures meaning { ForSome (D.state disk.old).content (λ file. IsFoundIn file result) }
     ensures bounds { IfOk result IsInBounds }
-    ensures same { OnOk result (D.content disk.new ≡ D.content disk.old) }
-    ensures told { ForSome (D.content disk.new) (λ file. D.content disk.old ≡ Some file) }
-    ensures stop { Run D.content D.moment D.left_at disk.old disk.new Same }
-    ensures count { D.faults disk.old ≤ D.faults disk.new }
-    ensures fault { IsErrOf result OpenFault.DiskFault → Rose (D.faults disk.old) (D.faults disk.new) }
+    ensures same { OnOk result ((D.state disk.new).content ≡ (D.state disk.old).content) }
+    ensures alone { LeavesAlone (D.state disk.old) (D.state disk.new) }
+    ensures fault { IsErrOf result OpenFault.DiskFault → Rose (D.state disk.old).faults (D.state disk.new).faults }
 {
     let length = disk.length()?;
     let Some(header) = read_header(disk)? else {
@@ -90,12 +91,12 @@ fn read_inside<D: Disk>(
 ) -> Result<Vec<u8>, OpenFault>
     requires { base + size < 2 ^ 63 }
     ensures bound { IfOk result (λ inside. length inside.items ≤ size) }
-    ensures bytes { IfOk result (λ inside. ForSome (D.content disk.old) (λ file. inside.items ≡ take size (drop base file))) }
-    ensures same { OnOk result (D.content disk.new ≡ D.content disk.old) }
-    ensures told { ForSome (D.content disk.new) (λ file. D.content disk.old ≡ Some file) }
-    ensures stop { Run D.content D.moment D.left_at disk.old disk.new Same }
-    ensures count { D.faults disk.old ≤ D.faults disk.new }
-    ensures causes { IfErr result (λ fault. (fault ≡ OpenFault.Memory) ⊎ ((fault ≡ OpenFault.DiskFault) × Rose (D.faults disk.old) (D.faults disk.new))) }
+    ensures bytes { IfOk result (λ inside. ForSome (D.state disk.old).content (λ file.
+        inside.items ≡ take size (drop base file))) }
+    ensures same { OnOk result ((D.state disk.new).content ≡ (D.state disk.old).content) }
+    ensures alone { LeavesAlone (D.state disk.old) (D.state disk.new) }
+    ensures causes { IfErr result (λ fault. (fault ≡ OpenFault.Memory)
+        ⊎ ((fault ≡ OpenFault.DiskFault) × Rose (D.state disk.old).faults (D.state disk.new).faults)) }
 {
     let mut inside = vec![in alloc; 0; size]?;
     let count = fill(disk, base, &mut inside)?;
@@ -120,31 +121,30 @@ fn refusal(fault: AreaFault, base: u64) -> OpenFault
 
 // Reads the header, if the file begins with one.
 fn read_header<D: Disk>(disk: &mut D) -> Result<Option<Header>, Failed>
-    ensures bounds { IfOk result (λ found. IfSome found (λ header. (header.side < 2) × (header.area ≤ 268435456))) }
-    ensures found { IfOk result (λ found. ForSome (D.content disk.old) (λ file. MatchOption found
+    ensures bounds { IfOk result (λ found. IfSome found (λ header. (header.side < 2) × (header.area ≤ most_area))) }
+    ensures found { IfOk result (λ found. ForSome (D.state disk.old).content (λ file. MatchOption found
         ((area side : ℕ) → HasHeader file area side → ⊥)
         (λ header. HasHeader file header.area header.side))) }
-    ensures same { OnOk result (D.content disk.new ≡ D.content disk.old) }
-    ensures told { ForSome (D.content disk.new) (λ file. D.content disk.old ≡ Some file) }
-    ensures stop { Run D.content D.moment D.left_at disk.old disk.new Same }
-    ensures cause { HasCause (D.faults disk.old) (D.faults disk.new) result }
+    ensures same { OnOk result ((D.state disk.new).content ≡ (D.state disk.old).content) }
+    ensures alone { LeavesAlone (D.state disk.old) (D.state disk.new) }
+    ensures cause { HasCause (D.state disk.old).faults (D.state disk.new).faults result }
 {
-    let mut front = [0; 32];
-    if fill(disk, 0, &mut front)? < 32 {
+    let mut prefix = [0; 32];
+    if fill(disk, 0, &mut prefix)? < 32 {
         return Ok(None);
     }
-    Ok(header_of(&front))
+    Ok(header_of(&prefix))
 }
 
-// Reads from `place` on until `into` is full or the file ends, and answers how many bytes came.
+// Reads from `place` on until `into` is full or the file ends, and returns how many bytes came.
 pub(crate) fn fill<D: Disk>(disk: &mut D, place: u64, into: &mut [u8]) -> Result<usize, Failed>
     requires { place + length into.old < 2 ^ 63 }
     ensures bound { IfOk result (λ n. n ≤ length into.new) }
-    ensures bytes { IfOk result (λ n. ForSome (D.content disk.old) (λ file. take n into.new ≡ take (length into.new) (drop place file))) }
-    ensures same { OnOk result (D.content disk.new ≡ D.content disk.old) }
-    ensures told { ForSome (D.content disk.new) (λ file. D.content disk.old ≡ Some file) }
-    ensures stop { Run D.content D.moment D.left_at disk.old disk.new Same }
-    ensures cause { HasCause (D.faults disk.old) (D.faults disk.new) result }
+    ensures bytes { IfOk result (λ n. ForSome (D.state disk.old).content (λ file.
+        take n into.new ≡ take (length into.new) (drop place file))) }
+    ensures same { OnOk result ((D.state disk.new).content ≡ (D.state disk.old).content) }
+    ensures alone { LeavesAlone (D.state disk.old) (D.state disk.new) }
+    ensures cause { HasCause (D.state disk.old).faults (D.state disk.new).faults result }
 {
     let mut filled = 0;
     'reads: while filled < into.len() {

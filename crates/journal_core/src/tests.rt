@@ -1,20 +1,19 @@
 //! What no clause says: the bytes of the file, refusals of given files, and every image of a run opened again.
-ghost use Rattle.std.specs.Prelude.{IfOk, ◌≤◌};
-ghost use Rattle.journal_core.specs.Journal.{IsReady};
+ghost use Rattle.std.specs.Prelude.{◌≤◌};
+ghost use Rattle.journal_core.specs.Layout.{least_area, most_area};
 
 use super::*;
 use disk_core::{DiskCall, Failing, MemoryDisk};
 use std::alloc::Global;
 use std::test::Fail;
 
+mod crashes;
 mod damage;
-mod stops;
 
 // A journal that was made on this disk.
 fn journal_on(alloc: Global, disk: MemoryDisk, area: u64) -> Result<Journal<MemoryDisk>, Fail>
-    requires least { 64 ≤ area }
-    requires most { area ≤ 268435456 }
-    ensures { IfOk result IsReady }
+    requires least { least_area ≤ area }
+    requires most { area ≤ most_area }
 {
     let Ok(made) = init(disk, area) else {
         return Err("no file was made".into());
@@ -25,7 +24,7 @@ fn journal_on(alloc: Global, disk: MemoryDisk, area: u64) -> Result<Journal<Memo
     }
 }
 
-// The front of a file up to the version byte: the header with this area length and side byte, and some bytes.
+// The beginning of a file: the header with this area length and side byte, and then these bytes.
 fn file_of(alloc: Global, area: u64, side_byte: u8, bytes: &[u8]) -> Result<Vec<u8>, Fail> {
     let mut file = b"DOIPREP1".to_vec(alloc)?;
     file.extend_from_slice(&area.to_be_bytes())?;
@@ -140,7 +139,7 @@ fn opening_is_two_reads_and_a_commit_four_writes_and_two_syncs(
     Ok(())
 }
 
-// What a commit answers on a disk that fails this call.
+// What a commit returns on a disk that fails this call.
 fn fault_at(alloc: Global, call: DiskCall, nth: u64) -> Result<Option<CommitFault>, Fail> {
     let disk = MemoryDisk::new(alloc, &[], &[Failing { call, nth }])?;
     let mut journal = journal_on(alloc, disk, 64)?;
@@ -167,7 +166,7 @@ fn a_failed_call_is_a_disk_fault(rt: HostRuntime) -> Result<(), Fail> {
 }
 
 #[test]
-fn each_fault_has_its_words(rt: HostRuntime) -> Result<(), Fail> {
+fn each_fault_has_its_text(rt: HostRuntime) -> Result<(), Fail> {
     let alloc = rt.alloc();
     let full = CommitFault::Full {
         used: 63,

@@ -10,7 +10,7 @@ returns-clause-written c =
     let size : c.max-size.result ≡ max (length c.args.file.now.items) (place + length piece) = omega arith in
     let long : vec_len c.args.file.now ≡ length c.args.file.now.items = search rules in
     let filled = c.deref_mut.ensures.value ∙ c.in_ok-resize.ensures.items in
-    with_items_is c.resize.new.self c.put.new.file (omega (arith, c.put.auto.file, c.deref_mut.ensures.len))
-    ∙ c.put.ensures
+    with_items_is c.resize.new.self c.replace.new.file (omega (arith, c.replace.auto.file, c.deref_mut.ensures.len))
+    ∙ c.replace.ensures
     ∙ ap (λ (l : List ℕ). take place l ++ (piece ++ drop (place + length piece) l)) filled
     ∙ written_filled_of place c.max-size.result (vec_len c.args.file.now) piece c.args.file.now.items long size

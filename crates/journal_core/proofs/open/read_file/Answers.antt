@@ -3,17 +3,17 @@ use Rattle.journal_core.specs.declared.header.Header.{Header}
 use Rattle.journal_core.specs.File.{HasHeader}
 use Rattle.journal_core.specs.Open.{IsCauseOf}
 use Rattle.journal_core.proofs.Opens.{cause_of, placed_of, no_header, inside_is, holds_read, used_within}
-use Rattle.journal_core.proofs.Runs.{match_some, match_none}
+use Rattle.journal_core.proofs.Results.{match_some, match_none}
 use Rattle.journal_core.proofs.open.read_file.Goals as goal
 
 pub returns-in_default-clause-meaning : goal.returns-in_default-clause-meaning
 returns-in_default-clause-meaning g c = λ file is.
-    let first = c.in_ok-length.ensures.same ∙ is in
+    let first = c.in_ok-length.ensures.reads.same ∙ is in
     no_header file (match_none ((area side : ℕ) → HasHeader file area side → ⊥) (λ (header : Header). HasHeader file header.area header.side) c.in_ok-header.field-0 (c.in_ok-header.ensures.found file first) c.in_default.is)
 
 pub returns-in-Ok-clause-meaning : goal.returns-in-Ok-clause-meaning
 returns-in-Ok-clause-meaning g c = λ file is.
-    let first = c.in_ok-length.ensures.same ∙ is in
+    let first = c.in_ok-length.ensures.reads.same ∙ is in
     let second = c.in_ok-header.ensures.same ∙ first in
     let header = c.in-Some.header in
     let has : HasHeader file header.area header.side =
@@ -38,7 +38,7 @@ refusal-requires g c =
 
 pub returns-clause-meaning : goal.returns-clause-meaning
 returns-clause-meaning g c = λ file is.
-    let first = c.in_ok-length.ensures.same ∙ is in
+    let first = c.in_ok-length.ensures.reads.same ∙ is in
     let second = c.in_ok-header.ensures.same ∙ first in
     let header = c.in-Some.header in
     let has : HasHeader file header.area header.side =

@@ -31,7 +31,7 @@ of_spec 𝓤 𝓛 𝓜 𝓡 wired D laws g d _ =
     let hs : Stays En.signature.params En.kept = (stay_none_ref (0 ∷ []) tt (plain (λ _. R)) yes, tt) in
     proved 𝓛 En hs c 𝓜 𝓡 (Goes-none_ref 𝓛 2 (0 ∷ []) tt (plain (λ _. R)) yes, tt) (#self inst) fn (code.unfolded 𝓤 H 𝓜 𝓡 wired (D, tt) d)
     (λ κs. (shr_vals, tt)) (λ κs. (shr_Tells (named 0) κs.0 R, tt)) (λ κs qs bounds a gh are.
-    let p : Val = vptr a.0.ref_ptr.0 a.0.ref_ptr.1 in let r : moment.the_row.Denot = record { number = g.moment a.0.now } in
+    let p : Val = vptr a.0.ref_ptr.0 a.0.ref_ptr.1 in let r : moment.the_row.Denot = record { number = (g.state a.0.now).moment } in
     let y : (walk_of 𝓛 En hs c).Ghost = ((κs, qs, bounds, a, (p ∷ [], tt)), gh) in let Post : Val → SProp 𝓤 = (walk_of 𝓛 En hs c).post y in
     qed 𝓛 ((raw (alive 𝓛 En.signature κs qs) ⊛ ‵ (owns (types_at En.signature.params κs) a y.0.4)) ∷ raw ((c κs a).requires gh) ∷ []) ∵ keep ! (0 ∷ []) $ split ! $
     enter ! 𝓣.C 𝓣.Λ fn (p ∷ []) Post $ alloc_all ! (λ l. pass_all ! refl ((tt, tt), tt) $

@@ -1,10 +1,10 @@
 use Rattle.std.proofs.Common.{◌≡◌, ◌↔◌, ◌+◌, List, Bool, true, false, not, refl, ap, subst}
 use Rattle.std.specs.Prelude.{Contains, IsTrue}
 use Rattle.disk_core.specs.Past.{count_of}
-use Rattle.disk_core.specs.declared.record.DiskCall.{DiskCall}
-use Rattle.disk_core.specs.declared.record.Failing.{Failing}
-use Rattle.disk_core.specs.declared.record.Noted.{Noted}
-use Rattle.disk_core.proofs.record.Log.enter.Goals as goal
+use Rattle.disk_core.specs.declared.calls.DiskCall.{DiskCall}
+use Rattle.disk_core.specs.declared.calls.Failing.{Failing}
+use Rattle.disk_core.specs.declared.calls.Noted.{Noted}
+use Rattle.disk_core.proofs.calls.Log.enter.Goals as goal
 
 was_not : (b : Bool) → not b ≡ false → b ≡ true
 was_not true is = refl

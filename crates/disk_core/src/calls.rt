@@ -1,37 +1,47 @@
 //! What a disk in memory writes down: each call, and whether it was done.
-ghost use Rattle.std.specs.Prelude.{◌≡◌, ◌↔◌, ◌^◌, ◌+◌, ◌≤◌, true, false, IsTrue, IfOk, OnErr, ◌∷◌, ◌++◌, [], Contains};
-ghost use Rattle.disk_core.specs.Disk.{Rose};
-ghost use Rattle.disk_core.specs.Past.{count_of};
+ghost use Rattle.std.specs.Prelude.{◌≡◌, ◌↔◌, ◌+◌, ◌≤◌, true, false, IsTrue, IfOk, OnErr, ◌∷◌, ◌++◌, []};
+ghost use Rattle.base_core.specs.Causes.{Rose};
+ghost use Rattle.disk_core.specs.Past.{count_of, Lists};
 
-use crate::Bytes;
+use base_core::{Bytes, counted};
 use std::alloc::{AllocError, Global};
 
 /// The kinds of call of a disk.
 #[derive(Clone, Copy, Debug, PartialEq, Eq)]
 pub enum DiskCall {
+    /// A call of `length`.
     Length,
+    /// A call of `read_at`.
     ReadAt,
+    /// A call of `write_at`.
     WriteAt,
+    /// A call of `sync`.
     Sync,
 }
 
 /// The `nth` call of its kind, from 1, is to fail.
 #[derive(Clone, Copy, Debug, PartialEq, Eq)]
 pub struct Failing {
+    /// The kind.
     pub call: DiskCall,
+    /// Which call of that kind.
     pub nth: u64,
 }
 
 /// A call of a disk. A write has its piece, and a call that has no place has 0.
 #[derive(Debug, Drop)]
 pub struct Noted {
+    /// Its kind.
     pub call: DiskCall,
+    /// Whether it was done. A call that wasn't has failed.
     pub done: bool,
+    /// Where in the file.
     pub place: u64,
+    /// What was to be written.
     pub bytes: Bytes,
 }
 
-// The record of a disk, and the calls that it is to fail.
+// The calls of a disk so far, and those that are to fail.
 #[derive(Drop)]
 pub(crate) struct Log {
     pub(crate) alloc: Global,
@@ -41,20 +51,23 @@ pub(crate) struct Log {
 }
 
 impl Log {
-    // Writes a call down, and answers whether it is to be done. One that isn't is counted.
+    // Writes a call down, and returns whether it is to be done. One that isn't is counted.
     pub(crate) fn enter(
         &mut self,
         call: DiskCall,
         place: u64,
         bytes: &[u8],
     ) -> Result<bool, AllocError>
-        ensures noted { IfOk result (λ done. self.new.calls.items ≡ self.old.calls.items ++ (record { call = call; done = done; place = place; bytes = bytes.now }) ∷ []) }
-        ensures listed { IfOk result (λ done. (done ≡ false) ↔ Contains self.old.failing.items (record { call = call; nth = count_of call self.old.calls.items + 1 })) }
+        ensures noted { IfOk result (λ done. self.new.calls.items ≡ self.old.calls.items
+            ++ (record { call = call; done = done; place = place; bytes = bytes.now }) ∷ []) }
+        ensures listed { IfOk result (λ done. (done ≡ false) ↔ Lists self.old.failing.items self.old.calls.items call) }
+        ensures err { OnErr result (self.new.calls.items ≡ self.old.calls.items) }
         ensures failing { self.new.failing ≡ self.old.failing }
+
         ensures done { IfOk result (λ done. done ≡ true → self.new.failed ≡ self.old.failed) }
         ensures failed { IfOk result (λ done. done ≡ false → Rose self.old.failed self.new.failed) }
+        ensures err_count { OnErr result (self.new.failed ≡ self.old.failed) }
         ensures count { self.old.failed ≤ self.new.failed }
-        ensures err { OnErr result ((self.new.failed ≡ self.old.failed) × (self.new.calls.items ≡ self.old.calls.items)) }
     {
         let done = !is_listed(&self.failing, &self.calls, call);
         let bytes = Bytes::of(self.alloc, bytes)?;
@@ -65,7 +78,7 @@ impl Log {
             bytes,
         })?;
         if !done {
-            self.failed = self.failed.saturating_add(1);
+            self.failed = counted(self.failed);
         }
         Ok(done)
     }
@@ -73,7 +86,7 @@ impl Log {
 
 // Whether the next call of this kind is on the list.
 fn is_listed(failing: &[Failing], calls: &[Noted], call: DiskCall) -> bool
-    ensures { IsTrue result ↔ Contains failing.now (record { call = call; nth = count_of call calls.now + 1 }) }
+    ensures { IsTrue result ↔ Lists failing.now calls.now call }
 {
     let nth = count(calls, call) + 1;
     failing.contains(&Failing { call, nth })

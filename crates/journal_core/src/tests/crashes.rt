@@ -1,7 +1,5 @@
-//! Stops at every call of a run, with every image that is listed opened again.
-ghost use Rattle.disk_core.specs.Disk.{IsSettled};
-
-use super::damage::answer_to;
+//! Crashes at every call of a run, with every image that is listed opened again.
+use super::damage::outcome_of;
 use super::file_of;
 use crate::{Journal, OpenFault, init};
 use disk_core::{Disk, FusedDisk, MemoryDisk};
@@ -9,10 +7,8 @@ use std::alloc::Global;
 use std::process::Abort;
 use std::test::Fail;
 
-// Opens a journal and adds up to ten bodies of three bytes. Answers the disk, and how many were acknowledged.
-fn add_ten<D: Disk>(alloc: Global, disk: D) -> (D, u8)
-    requires { IsSettled (D.content disk) (D.left_at disk (D.moment disk)) }
-{
+// Opens a journal and adds up to ten bodies of three bytes. Returns the disk, and how many were acknowledged.
+fn add_ten<D: Disk>(alloc: Global, disk: D) -> (D, u8) {
     let mut journal = match Journal::open(alloc, disk) {
         Ok((journal, _)) => journal,
         Err((disk, _)) => return (disk, 0),
@@ -67,7 +63,7 @@ fn a_torn_gate_of_any_value_shows_one_list(rt: HostRuntime) -> Result<(), Fail> 
         let area = [1, gate, 0, 0, 0, 0, 0, 0, 0, 3, 7, 7, 7, 0];
         let file = file_of(alloc, 64, 0, &area)?;
         let bodies = if gate == 1 { 1 } else { 0 };
-        assert_eq!(rt; answer_to(alloc, &file)?, Ok(bodies), "gate {gate}");
+        assert_eq!(rt; outcome_of(alloc, &file)?, Ok(bodies), "gate {gate}");
     }
     Ok(())
 }
@@ -88,8 +84,8 @@ fn every_image_of_a_new_file_is_no_store_or_empty(rt: HostRuntime) -> Result<(),
         let disk = made_with(alloc, passes)?;
         let images = disk.images()?;
         for index in 0..images.len() {
-            let answer = answer_to(alloc, images.item(index).get())?;
-            assert!(rt; answer == Ok(0) || answer == Err(OpenFault::NotAStore));
+            let outcome = outcome_of(alloc, images.item(index).get())?;
+            assert!(rt; outcome == Ok(0) || outcome == Err(OpenFault::NotAStore));
         }
     }
     Ok(())
