@@ -16,3 +16,5 @@ pub mod Shape
 pub mod Building
 pub mod Removed
 pub mod PlainLists
+pub mod Rooms
+pub mod Named
