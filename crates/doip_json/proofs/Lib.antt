@@ -18,3 +18,9 @@ pub mod Removed
 pub mod PlainLists
 pub mod Rooms
 pub mod Named
+pub mod Sizes
+pub mod Lexed
+pub mod Lexemes
+pub mod Words
+pub mod Lexing
+pub mod NoLonger

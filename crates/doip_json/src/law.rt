@@ -1,5 +1,5 @@
 //! Laws over reading and writing.
-ghost use Rattle.std.specs.Prelude.{◌≡◌, ◌≢◌, ◌≤◌, ℕ, List, Ok};
+ghost use Rattle.std.specs.Prelude.{◌≡◌, ◌≢◌, ◌≤◌, ℕ, List, Ok, length};
 ghost use Rattle.std.specs.List.{AllByRecursion};
 ghost use Rattle.doip_json.specs.Value.{Value, Values, Entries, values_from, entries_from, values_in, entries_in, depth_of};
 ghost use Rattle.doip_json.specs.Meaning.{value_of};
@@ -41,4 +41,10 @@ pub fn items_and_entries_are_lists()
 /// What a pointer that is written from names finds is what the names lead to. It does nothing when it runs.
 pub fn written_pointers_find()
     ensures { (names : List (List ℕ)) → (v : Value) → pointed (pointer_of names) v ≡ led_to names v }
+{}
+
+/// The canonical text of what `read` takes is no longer than the text that was read. It does nothing when it runs.
+pub fn texts_are_no_longer()
+    ensures { (bytes : List ℕ) → (depth : ℕ) → (v : Value) → reading bytes depth ≡ Ok v
+        → length (text_of v) ≤ length bytes }
 {}

@@ -30,7 +30,10 @@ mod writing;
 
 pub use base_core::Bytes;
 pub use fault::{JsonFault, TextFault};
-pub use law::{is_one_line, items_and_entries_are_lists, reads_back, written_pointers_find};
+pub use law::{
+    is_one_line, items_and_entries_are_lists, reads_back, texts_are_no_longer,
+    written_pointers_find,
+};
 pub use leaf::{Num, Str};
 pub use look::get;
 pub use pointer::at_pointer;

@@ -11,8 +11,8 @@ use crate::value::{Json, JsonMap};
 /// The value that a JSON pointer names. It takes no memory.
 ///
 /// A pointer is empty, and names the value itself, or has a `/` before each of its tokens, in which `~1` is `/` and
-/// `~0` is `~`. A token names a key of an object or, by 1 to 9 digits with no leading zero, a position of an array, from 0.
-/// Everything else finds nothing.
+/// `~0` is `~`. A token names a key of an object or, by 1 to 9 digits with no leading zero, a position of an array,
+/// from 0. Everything else finds nothing.
 ///
 /// A token with no `~` is found by binary search, and any other by a pass over the object.
 pub fn at_pointer<'a>(value: &'a Json, pointer: &str) -> Option<&'a Json>

@@ -2,7 +2,8 @@
 
 use crate::{
     Bytes, Json, JsonFault, JsonList, JsonMap, Num, Str, TextFault, append_text, at_pointer, copy,
-    copy_map, get, is_one_line, is_same, push_token, read, reads_back, text, written_pointers_find,
+    copy_map, get, is_one_line, is_same, push_token, read, reads_back, text, texts_are_no_longer,
+    written_pointers_find,
 };
 use std::alloc::{AllocError, Global};
 use std::test::Fail;
@@ -298,6 +299,7 @@ fn what_was_written_is_read_as_the_same_value(rt: HostRuntime) -> Result<(), Fai
     };
     assert!(rt; is_same(&value, &again));
     reads_back(&Json::Null, 1);
+    texts_are_no_longer();
     Ok(())
 }
 

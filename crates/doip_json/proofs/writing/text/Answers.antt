@@ -1,4 +1,4 @@
-use Rattle.std.proofs.Common.{[], ◌++◌, sym, subst, ap, ◌∙◌}
+use Rattle.std.proofs.Common.{◌++◌, sym, subst, ap, ◌∙◌}
 use Rattle.doip_json.specs.Meaning.{value_of}
 use Rattle.doip_json.specs.Text.{text_of, IsOneLine}
 use Rattle.doip_json.proofs.Shape.{IsOneLine-text_of}
