@@ -5,11 +5,11 @@ use Rattle.serde_json.specs.Find.{as_integer}
 use Rattle.doip_json.specs.Value.{Value, null, truth, whole, text, list, table, Values, no_values, value, Entries, no_entries, entry, depth_of, deepest_value, deepest_entry}
 use Rattle.doip_json.specs.Read.{value_in, values_in, entries_in}
 
-some_mapped : {A B : Type 0} (f : A → B) (o : Option A) (b : B) → option_map f o ≡ Some b → (a : A) × (o ≡ Some a) × (b ≡ f a)
+pub some_mapped : {A B : Type 0} (f : A → B) (o : Option A) (b : B) → option_map f o ≡ Some b → (a : A) × (o ≡ Some a) × (b ≡ f a)
 some_mapped f None b e = absurd (cc)
 some_mapped f (Some a) b e = (a, refl, cc)
 
-some_paired : {A B C : Type 0} (f : A → B → C) (o : Option A) (p : Option B) (c : C) → option_and_then (λ a. option_map (f a) p) o ≡ Some c → (a : A) × (b : B) × (o ≡ Some a) × (p ≡ Some b) × (c ≡ f a b)
+pub some_paired : {A B C : Type 0} (f : A → B → C) (o : Option A) (p : Option B) (c : C) → option_and_then (λ a. option_map (f a) p) o ≡ Some c → (a : A) × (b : B) × (o ≡ Some a) × (p ≡ Some b) × (c ≡ f a b)
 some_paired f None p c e = absurd (cc)
 some_paired f (Some a) None c e = absurd (cc)
 some_paired f (Some a) (Some b) c e = (a, b, refl, refl, cc)

@@ -16,3 +16,11 @@ pub mod Shape
 pub mod Building
 pub mod Removed
 pub mod PlainLists
+pub mod Rooms
+pub mod Named
+pub mod Sizes
+pub mod Lexed
+pub mod Lexemes
+pub mod Words
+pub mod Lexing
+pub mod NoLonger

@@ -1,13 +1,16 @@
 -- What a text reads as, step by step.
-use Rattle.std.proofs.Common.{◌≡◌, ℕ, ◌<◌, ◌≤◌, List, Bool, true, false, nat_le, if◌then◌else◌, Option, Some, None, Result, Ok, Err, IsUtf8, refl, sym, ap, ◌∙◌, arith}
+use Rattle.std.proofs.Common.{◌≡◌, ℕ, ◌<◌, ◌≤◌, List, Bool, true, false, nat_le, if◌then◌else◌, Option, Some, None, Result, Ok, Err, IsUtf8, refl, ap, ◌∙◌, arith}
 use Rattle.std.proofs.lemmas.Bool.Decides.{nat_tests}
 use Rattle.std.proofs.lemmas.Str.{is_utf8-from_IsUtf8, IsUtf8-from_is_utf8}
 use Rattle.std.specs.Str.{is_utf8}
 use Rattle.serde_json.specs.Data as parsed
 use Rattle.serde_json.specs.Read.{read}
-use Rattle.doip_json.specs.declared.reading.JsonFault.TheVariants.{NotJson, TooDeep, NotWhole, Memory}
-use Rattle.std.proofs.Common.{◌≢◌, IfOk, IfErr}
-use Rattle.doip_json.specs.declared.reading.JsonFault.{JsonFault}
+use Rattle.doip_json.specs.declared.fault.JsonFault.TheVariants as faults
+use Rattle.doip_json.specs.declared.fault.TextFault.{TextFault}
+use Rattle.doip_json.specs.declared.fault.TextFault.TheVariants.{NotJson, TooDeep, NotWhole}
+use Rattle.doip_json.specs.Faults.{text_fault_of}
+use Rattle.std.proofs.Common.{IfOk, IfErr, IfSome}
+use Rattle.doip_json.specs.declared.fault.JsonFault.{JsonFault}
 use Rattle.doip_json.specs.declared.value.Json.{Json}
 use Rattle.doip_json.specs.Value.{Value, depth_of}
 use Rattle.doip_json.proofs.Depths.{depth_of-value_in}
@@ -37,13 +40,20 @@ within_shallow depth d h = ap (λ b. if b then or_fault NotWhole (value_in d) el
 pub within_deep : (depth : ℕ) (d : parsed.Data) → depth < parsed.depth d → within_depth depth d ≡ Err TooDeep
 within_deep depth d h = ap (λ b. if b then or_fault NotWhole (value_in d) else Err TooDeep) (le_false _ _ h)
 
-pub converted_value : (r : Result Json JsonFault) (o : Option Value) (outcome : Result Value JsonFault) → outcome ≡ or_fault NotWhole o → IfOk r (λ json. o ≡ Some (value_of json)) → IfOk r (λ json. outcome ≡ Ok (value_of json))
+pub converted_value : (r : Result Json JsonFault) (o : Option Value) (outcome : Result Value TextFault) → outcome ≡ or_fault NotWhole o → IfOk r (λ json. o ≡ Some (value_of json)) → IfOk r (λ json. outcome ≡ Ok (value_of json))
 converted_value (Ok json) o outcome is value = is ∙ ap (or_fault NotWhole) value
 converted_value (Err fault) o outcome is value = tt
 
-pub converted_fault : (r : Result Json JsonFault) (o : Option Value) (outcome : Result Value JsonFault) → outcome ≡ or_fault NotWhole o → IfErr r (IsNotWhole o) → IfErr r (λ fault. fault ≢ Memory → outcome ≡ Err fault)
+as_told : (fault : JsonFault) (o : Option Value) (outcome : Result Value TextFault) → outcome ≡ or_fault NotWhole o → IsNotWhole o fault → IfSome (text_fault_of fault) (λ told. outcome ≡ Err told)
+as_told faults.NotJson o outcome is why = let same = (why (λ e. cc)).0 in absurd (cc)
+as_told faults.TooDeep o outcome is why = let same = (why (λ e. cc)).0 in absurd (cc)
+as_told faults.NotWhole o outcome is why = is ∙ ap (or_fault NotWhole) (why (λ e. cc)).1
+as_told faults.Memory o outcome is why = tt
+
+pub converted_fault : (r : Result Json JsonFault) (o : Option Value) (outcome : Result Value TextFault) → outcome ≡ or_fault NotWhole o → IfErr r (IsNotWhole o)
+    → IfErr r (λ fault. IfSome (text_fault_of fault) (λ told. outcome ≡ Err told))
 converted_fault (Ok json) o outcome is why = tt
-converted_fault (Err fault) o outcome is why = λ other. is ∙ (ap (or_fault NotWhole) (why other).1 ∙ ap Err (sym (why other).0))
+converted_fault (Err fault) o outcome is why = as_told fault o outcome is why
 
 pub converted_depth : (r : Result Json JsonFault) (d : parsed.Data) (depth : ℕ) → parsed.depth d ≤ depth → IfOk r (λ json. value_in d ≡ Some (value_of json)) → IfOk r (λ json. depth_of (value_of json) ≤ depth)
 converted_depth (Ok json) d depth shallow value = let same = depth_of-value_in d (value_of json) value in omega arith

@@ -21,7 +21,7 @@ use Rattle.doip_json.specs.Sound.{IsSound, AreSound, EntriesAreSound, IsAscendin
 use Rattle.doip_json.specs.Text.{text_of, item_texts, entry_texts, string_of}
 use Rattle.doip_json.specs.Tokens.{tokens_of, item_tokens, entry_tokens}
 use Rattle.doip_json.specs.Read.{value_in, values_in, entries_in, reading, or_fault}
-use Rattle.doip_json.specs.declared.reading.JsonFault.TheVariants.{NotWhole}
+use Rattle.doip_json.specs.declared.fault.TextFault.TheVariants.{NotWhole}
 use Rattle.doip_json.proofs.Ascending.{compared, above}
 use Rattle.doip_json.proofs.Numerals.{IsNumber-whole, IsUtf8-whole, number_text-whole, number_of-whole, as_integer-whole}
 use Rattle.doip_json.proofs.Outcomes.{reading_some, within_shallow}

@@ -1,4 +1,4 @@
--- What a list or a table holds is less deep than the list or the table.
+-- What an array or an object contains is less deep than the array or the object.
 use Rattle.std.specs.Prelude.{◌≤◌, max, List, [], ◌∷◌, map}
 use Rattle.std.proofs.Common.{arith}
 use denote.Param.Weighed.{most}
@@ -21,6 +21,7 @@ pub items_fall : (js : List Json) → max (most deep-Json js) 0 ≤ deepest_valu
 items_fall [] = omega arith
 items_fall (j ∷ js) = omega (arith, deep-le j, items_fall js)
 
-pub entries_fall : (es : List (Str × Json)) → max (most (λ e. max 0 (max (deep-Json e.1) 0)) es) 0 ≤ deepest_entry (entries_from (pairs_of es))
+pub entries_fall : (es : List (Str × Json))
+    → max (most (λ e. max 0 (max (deep-Json e.1) 0)) es) 0 ≤ deepest_entry (entries_from (pairs_of es))
 entries_fall [] = omega arith
 entries_fall (e ∷ es) = omega (arith, deep-le e.1, entries_fall es)

@@ -6,7 +6,10 @@ pub mod Falls
 pub mod Places
 pub mod Look
 pub mod Pointer
+pub mod Written
 pub mod Text
 pub mod Tokens
+pub mod Room
+pub mod Faults
 pub mod Read
 pub mod Whole

@@ -8,7 +8,7 @@ abbrev pub entry_of : List ℕ → Entries → Option Value
 entry_of k no_entries = None
 entry_of k (entry l v es) = if pointwise nat_eq k l then Some v else entry_of k es
 
--- the value at a key, of a table that has the key
+-- the value at a key, of an object that has the key
 abbrev pub field_of : List ℕ → Value → Option Value
 field_of k null = None
 field_of k (truth b) = None

@@ -14,6 +14,6 @@ value_of (Text s) = text s
 value_of (Items vs) = list (values_from vs)
 value_of (Table es) = table (entries_from es)
 
--- the keys and the meanings of a table's entries
+-- the keys and the meanings of an object's entries
 abbrev pub pairs_of : List (Str × Json) → List (List ℕ × Value)
 pairs_of = map (λ e. (e.0, value_of e.1))

@@ -5,6 +5,7 @@ use Rattle.std.specs.declared.cmp.Ordering.TheVariants.{Less, Greater}
 use Rattle.std.specs.Cmp.Lexicographic.{slice_cmp}
 use Rattle.doip_json.specs.Value.{Value, null}
 
+-- the key of the entry at a place
 abbrev pub key_of : List (List ℕ × Value) → ℕ → List ℕ
 key_of es i = (slice_index_or es i ([], null)).0
 
@@ -13,7 +14,7 @@ pub record IsPlaceOf (k : List ℕ) (es : List (List ℕ × Value)) (i : ℕ) : 
   pub within : i < length es
   pub has_key : key_of es i ≡ k
 
--- lower keys stand before place i, and greater ones from it on
+-- the keys before place i are lower, and those from it on are greater
 pub record IsGapFor (k : List ℕ) (es : List (List ℕ × Value)) (i : ℕ) : Type 0 where
   pub within : i ≤ length es
   pub lower : (j : ℕ) → j < i → slice_cmp nat_cmp (key_of es j) k ≡ Less

@@ -1,4 +1,5 @@
--- What a JSON pointer names (RFC 6901). That a position has at most 9 digits, and that every fault finds nothing, is this project's own.
+-- What a JSON pointer names (RFC 6901). That a position has at most 9 digits, and that every fault finds nothing, is
+-- this project's own.
 use Rattle.std.specs.Prelude.{ℕ, zero, suc, List, [], ◌∷◌, length, slice_index, Bool, not, ◌&&◌, ◌||◌, ◌==◌, nat_lt, nat_le, if◌then◌else◌, Option, Some, None, option_map, option_and_then}
 use Rattle.std.specs.Str.{all_ascii_digits}
 use Rattle.std.specs.Str.Parse.{digits_value}
@@ -10,13 +11,16 @@ unfoldable pub unescaped : List ℕ → Option (List ℕ)
 unescaped [] = Some []
 unescaped (x ∷ []) = if x == 126 then None else Some (x ∷ [])
 unescaped (x ∷ y ∷ rest) =
-    if x == 126 then (if y == 48 then option_map (λ s. 126 ∷ s) (unescaped rest) else (if y == 49 then option_map (λ s. 47 ∷ s) (unescaped rest) else None))
+    if x == 126 then (if y == 48 then option_map (λ s. 126 ∷ s) (unescaped rest)
+    else (if y == 49 then option_map (λ s. 47 ∷ s) (unescaped rest) else None))
     else option_map (λ s. x ∷ s) (unescaped (y ∷ rest))
 
--- 1 to 9 digits, with no zero in front of another
+-- 1 to 9 digits, with no leading zero
 abbrev pub is_position : List ℕ → Bool
-is_position s = nat_lt 0 (length s) && nat_le (length s) 9 && ((length s == 1) || not (slice_index s 0 == 48)) && all_ascii_digits s
+is_position s =
+    nat_lt 0 (length s) && nat_le (length s) 9 && ((length s == 1) || not (slice_index s 0 == 48)) && all_ascii_digits s
 
+-- the position that a token names
 abbrev pub position_in : List ℕ → Option ℕ
 position_in s = if is_position s then Some (digits_value 10 s) else None
 
@@ -35,7 +39,7 @@ named_by token (text s) = None
 named_by token (list vs) = option_and_then (λ i. item_of i vs) (position_in token)
 named_by token (table es) = option_and_then (λ k. entry_of k es) (unescaped token)
 
--- a byte in front of the first part
+-- a byte before the first part
 abbrev pub with_byte : ℕ → List (List ℕ) → List (List ℕ)
 with_byte x [] = (x ∷ []) ∷ []
 with_byte x (p ∷ ps) = (x ∷ p) ∷ ps

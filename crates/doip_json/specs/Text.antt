@@ -5,13 +5,15 @@ use Rattle.std.specs.Fmt.{signed_decimal}
 use Rattle.std.specs.List.{join_with_byte}
 use Rattle.doip_json.specs.Value.{Value, null, truth, whole, text, list, table, Values, no_values, value, Entries, no_entries, entry}
 
--- the letter that stands behind the backslash for a byte which has one, and 0 for any other
+-- the letter after the backslash for a byte that has one, and 0 for any other
 abbrev pub letter_of : ℕ → ℕ
 letter_of x =
     if (x == 34) || (x == 92) then x
-    else (if x == 8 then 98 else (if x == 12 then 102 else (if x == 10 then 110 else (if x == 13 then 114 else (if x == 9 then 116 else 0)))))
+    else (if x == 8 then 98 else (if x == 12 then 102 else (if x == 10 then 110
+    else (if x == 13 then 114 else (if x == 9 then 116 else 0)))))
 
--- What stands in a string for a byte: `"` and `\` behind a backslash, \b \f \n \r \t, \u00 and two digits for the others below 0x20, and any other byte itself.
+-- What is written in a string for a byte: `"` and `\` after a backslash, \b \f \n \r \t, \u00 and two digits for the
+-- others below 0x20, and any other byte itself.
 abbrev pub escaped : ℕ → List ℕ
 escaped x =
     if nat_lt 0 (letter_of x) then 92 ∷ letter_of x ∷ []
@@ -44,9 +46,10 @@ abbrev mutual
 
 -- the bytes that a value's text may begin with
 abbrev pub begins_value : ℕ → Bool
-begins_value x = is_ascii_digit x || (x == 34) || (x == 45) || (x == 91) || (x == 102) || (x == 110) || (x == 116) || (x == 123)
+begins_value x =
+    is_ascii_digit x || (x == 34) || (x == 45) || (x == 91) || (x == 102) || (x == 110) || (x == 116) || (x == 123)
 
--- a text that stands in one line: it begins as a value does, and has no byte below 0x20
+-- a text of one line: it begins as a value does, and has no byte below 0x20
 pub record IsOneLine (bytes : List ℕ) : Type 0 where
   pub begins : IsTrue (begins_value (slice_index bytes 0))
   pub printable : All (λ b. 32 ≤ b) bytes

@@ -1,4 +1,4 @@
-//! What a value is made of: a text, bytes, and a whole number.
+//! What a value is made of: strings and integers.
 ghost use Rattle.std.specs.Prelude.{◌≡◌, IfOk, string_bytes};
 ghost use Rattle.std.specs.Option.{SomeIff};
 ghost use Rattle.doip_json.specs.Sound.{IsWhole};
@@ -6,7 +6,7 @@ ghost use Rattle.doip_json.specs.Sound.{IsWhole};
 use std::alloc::{AllocError, Global};
 use std::marker::Model;
 
-/// A text, seen as its UTF-8 bytes.
+/// A string, seen as its UTF-8 bytes.
 #[derive(Debug, Drop)]
 pub struct Str {
     text: String,
@@ -25,14 +25,14 @@ impl Model for Str {
 impl Str {
     ghost use Rattle.std.specs.Prelude.{IsUtf8};
 
-    /// A copy of the text.
+    /// A copy of the string.
     pub fn of(alloc: Global, text: &str) -> Result<Str, AllocError>
         ensures { IfOk result (λ s. s ≡ text.now) }
     {
         Ok(Str::from_string(String::from_str(alloc, text)?))
     }
 
-    /// The same text, with no copy.
+    /// The same string, with no copy.
     pub fn from_string(text: String) -> Str
         ensures { result ≡ string_bytes text }
     {
@@ -40,7 +40,7 @@ impl Str {
         Str { text }
     }
 
-    /// The same text, with no copy.
+    /// The same string, with no copy.
     pub fn into_string(self) -> String
         ensures { string_bytes result ≡ self }
     {
@@ -48,6 +48,7 @@ impl Str {
         text
     }
 
+    /// The string, lent.
     pub fn get(&self) -> &str
         ensures text { result.now ≡ self.now }
         ensures utf8 { IsUtf8 self.now }
@@ -56,51 +57,7 @@ impl Str {
     }
 }
 
-/// Bytes, seen as their list.
-#[derive(Debug, Drop)]
-pub struct Bytes {
-    bytes: Vec<u8>,
-}
-
-impl Model for Bytes {
-    ghost use Rattle.std.specs.Prelude.{List, ℕ};
-
-    ghost Value = { List ℕ };
-
-    ghost view = { λ b. b.bytes.items };
-}
-
-impl Bytes {
-    /// A copy of the bytes.
-    pub fn of(alloc: Global, bytes: &[u8]) -> Result<Bytes, AllocError>
-        ensures { IfOk result (λ b. b ≡ bytes.now) }
-    {
-        Ok(Bytes::from_vec(bytes.to_vec(alloc)?))
-    }
-
-    /// The same bytes, with no copy.
-    pub fn from_vec(bytes: Vec<u8>) -> Bytes
-        ensures { result ≡ bytes.items }
-    {
-        Bytes { bytes }
-    }
-
-    /// The same bytes, with no copy.
-    pub fn into_vec(self) -> Vec<u8>
-        ensures { result.items ≡ self }
-    {
-        let Bytes { bytes } = self;
-        bytes
-    }
-
-    pub fn get(&self) -> &[u8]
-        ensures { result.now ≡ self.now }
-    {
-        self.bytes.as_slice()
-    }
-}
-
-/// A whole number from -2^63 to 2^64 - 1, seen as that number.
+/// An integer from -2^63 to 2^64 - 1, seen as that number.
 #[derive(Clone, Copy, Debug, Drop)]
 pub struct Num {
     number: i128,
@@ -120,7 +77,7 @@ impl Model for Num {
 }
 
 impl Num {
-    /// The number, or `None` exactly where it is below -2^63 or above 2^64 - 1.
+    /// The number, `None` exactly when it is below -2^63 or above 2^64 - 1.
     pub fn new(n: i128) -> Option<Num>
         ensures { SomeIff result (IsWhole n) n }
     {
@@ -131,6 +88,7 @@ impl Num {
         }
     }
 
+    /// The number.
     pub fn get(&self) -> i128
         ensures value { result ≡ self.now }
         ensures range { IsWhole self.now }

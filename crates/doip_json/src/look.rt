@@ -7,7 +7,7 @@ use crate::value::Json;
 
 /// The value at the key, `None` exactly when the value is no JSON object or lacks the key.
 ///
-/// It searches in halves.
+/// It is found by binary search.
 pub fn get<'a>(value: &'a Json, key: &str) -> Option<&'a Json>
     ensures { option_map (λ found. value_of found.now) result ≡ field_of key.now (value_of value.now) }
 {

@@ -10,11 +10,11 @@ use crate::value::{Json, JsonMap};
 
 /// The value that a JSON pointer names. It takes no memory.
 ///
-/// A pointer is empty, and names the value itself, or has a `/` before each of its tokens, in which `~1`
-/// stands for `/` and `~0` for `~`. A token names the key of a table or, by 1 to 9 digits with no zero in
-/// front of another, a position in a list, from 0. Everything else finds nothing.
+/// A pointer is empty, and names the value itself, or has a `/` before each of its tokens, in which `~1` is `/` and
+/// `~0` is `~`. A token names a key of an object or, by 1 to 9 digits with no leading zero, a position of an array,
+/// from 0. Everything else finds nothing.
 ///
-/// A token with no `~` is sought in halves, and another one along the table.
+/// A token with no `~` is found by binary search, and any other by a pass over the object.
 pub fn at_pointer<'a>(value: &'a Json, pointer: &str) -> Option<&'a Json>
     ensures { option_map (λ found. value_of found.now) result
         ≡ pointed pointer.now (value_of value.now) }
@@ -118,7 +118,7 @@ fn writes(token: &[u8], key: &[u8]) -> bool
     matched == key.len()
 }
 
-// The byte that is written at a place, and the place behind it. There is none at a faulty escape.
+// The byte that is written at a place, and the place after it. There is none at a faulty escape.
 fn byte_at(token: &[u8], at: usize) -> Option<(u8, usize)>
     requires { at < length token.now }
     ensures value { MatchOption result (unescaped (drop at token.now) ≡ None)

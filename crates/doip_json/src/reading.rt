@@ -1,61 +1,33 @@
-//! From a text to a value.
-ghost use Rattle.std.specs.Prelude.{◌≡◌, ◌≢◌, ◌≤◌, ◌↔◌, IsTrue, IfOk, IfErr, Some, option_map};
+//! Reading a text as a value.
+ghost use Rattle.std.specs.Prelude.{◌≡◌, ◌≤◌, ◌↔◌, IsTrue, IfOk, IfErr, IfSome, Some, option_map};
 ghost use Rattle.serde_json.specs.Data.{depth as nesting, items_depth, members_depth};
 ghost use Rattle.serde_json.specs.Find.{as_integer};
 ghost use Rattle.serde_json.specs.View.{view, number_view, items_view, members_view};
 ghost use Rattle.doip_json.specs.Value.{depth_of, whole, values_from, entries_from};
 ghost use Rattle.doip_json.specs.Meaning.{value_of};
 ghost use Rattle.doip_json.specs.Read.{reading, value_in, values_in, entries_in};
+ghost use Rattle.doip_json.specs.Faults.{text_fault_of};
 ghost use Rattle.doip_json.specs.Whole.{IsNotWhole};
 
+use crate::fault::JsonFault;
 use crate::leaf::{Num, Str};
 use crate::value::{Json, JsonList, JsonMap};
 use serde_json::{Map, Number, Value};
-use std::alloc::{AllocError, Global};
-use std::convert::From;
-use thiserror::Error;
+use std::alloc::Global;
 
-/// Why a text isn't read.
-#[derive(Clone, Copy, Debug, PartialEq, Eq, Drop, Error)]
-pub enum JsonFault {
-    /// The bytes aren't UTF-8, or aren't a JSON text.
-    #[error("not JSON")]
-    NotJson,
-    /// A list or a table nests deeper than asked.
-    #[error("nested too deep")]
-    TooDeep,
-    /// A number has a fraction or an exponent, or is below -2^63 or above 2^64 - 1.
-    #[error("number is not whole")]
-    NotWhole,
-    /// There was no memory.
-    #[error("want of memory")]
-    Memory,
-}
-
-impl From<AllocError> for JsonFault {
-    ghost use Rattle.std.specs.Prelude.{◌≡◌};
-    ghost use Rattle.doip_json.specs.declared.reading.JsonFault.TheVariants.{Memory};
-
-    ghost from_gives = { λ _ fault. fault ≡ Memory };
-
-    fn from(_: AllocError) -> JsonFault {
-        JsonFault::Memory
-    }
-}
-
-/// The value of a JSON text, with lists and tables nested at most `depth` deep.
+/// The value of a JSON text, with arrays and objects nested at most `depth` deep.
 ///
-/// The first fault counts: `NotJson` where the bytes aren't UTF-8 or aren't a JSON text by RFC 8259
-/// (a text that nests deeper than 127 is none), else `TooDeep`, else `NotWhole`.
+/// The first fault counts: `NotJson` if the bytes aren't UTF-8 or aren't a JSON text by RFC 8259 (a text that nests
+/// deeper than 127 is none), else `TooDeep`, else `NotWhole`.
 ///
-/// Linear in the text. `serde_json` reads it into its own value, whose strings are then moved and not
-/// copied; lists and tables are built anew. The stack grows with the nesting alone.
+/// It takes time linear in the text. `serde_json` reads it into its own value, whose strings are then moved and not
+/// copied; arrays and objects are built anew. The stack grows with the nesting alone.
 pub fn read(alloc: Global, bytes: &[u8], depth: u8) -> Result<Json, JsonFault>
     requires low { 1 ≤ depth }
     requires high { depth ≤ 127 }
     ensures value { IfOk result (λ json. reading bytes.now depth ≡ Ok (value_of json)) }
     ensures nests { IfOk result (λ json. depth_of (value_of json) ≤ depth) }
-    ensures fault { IfErr result (λ fault. fault ≢ JsonFault.Memory → reading bytes.now depth ≡ Err fault) }
+    ensures fault { IfErr result (λ fault. IfSome (text_fault_of fault) (λ told. reading bytes.now depth ≡ Err told)) }
 {
     match Value::from_slice(alloc, bytes) {
         Ok(parsed) => if nests_within(&parsed, depth) {

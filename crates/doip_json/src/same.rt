@@ -53,7 +53,7 @@ pub fn is_same_map(a: &JsonMap, b: &JsonMap) -> bool
     true
 }
 
-/// An equal value. It copies each text once.
+/// An equal value. It copies each string once.
 #[cycle(copy)]
 pub fn copy(alloc: Global, value: &Json) -> Result<Json, AllocError>
     ensures { IfOk result (λ made. value_of made ≡ value_of value.now) }
@@ -79,7 +79,7 @@ fn copy_list(alloc: Global, list: &JsonList) -> Result<JsonList, AllocError>
     Ok(made)
 }
 
-/// An equal table. It copies each text once.
+/// An equal object. It copies each string once.
 #[cycle(copy)]
 pub fn copy_map(alloc: Global, map: &JsonMap) -> Result<JsonMap, AllocError>
     ensures { IfOk result (λ made. made ≡ map.now) }

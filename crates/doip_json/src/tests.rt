@@ -1,8 +1,9 @@
 //! Texts with their values and faults, pointers, and a happy run of each call.
 
 use crate::{
-    Bytes, Json, JsonFault, JsonList, JsonMap, Num, Str, at_pointer, copy, copy_map, get,
-    is_one_line, is_same, read, reads_back, text,
+    Bytes, Json, JsonFault, JsonList, JsonMap, Num, Str, TextFault, append_text, at_pointer, copy,
+    copy_map, get, is_one_line, is_same, push_token, read, reads_back, text, texts_are_no_longer,
+    written_pointers_find,
 };
 use std::alloc::{AllocError, Global};
 use std::test::Fail;
@@ -22,7 +23,7 @@ fn outcome(alloc: Global, bytes: &[u8]) -> Result<Vec<u8>, AllocError> {
 
 #[test]
 fn each_text_has_its_value_or_its_fault(rt: HostRuntime) -> Result<(), Fail> {
-    let table: [(&[u8], &[u8]); 52] = [
+    let cases: [(&[u8], &[u8]); 52] = [
         (b"null", b"null"),
         (b"true", b"true"),
         (b"false", b"false"),
@@ -101,14 +102,14 @@ fn each_text_has_its_value_or_its_fault(rt: HostRuntime) -> Result<(), Fail> {
         (b"{a:1}", b"NotJson"),
         (b"'a'", b"NotJson"),
     ];
-    for (bytes, want) in table {
+    for (bytes, want) in cases {
         let got = outcome(rt.alloc(), bytes)?;
         assert_eq!(rt; got.as_slice(), want, "at {bytes:?}");
     }
     Ok(())
 }
 
-// Lists, or tables under the key `a`, nested this often round what stands inside.
+// Arrays, or objects under the key `a`, nested this often round the bytes inside.
 fn nested(
     alloc: Global,
     open: &[u8],
@@ -136,34 +137,34 @@ fn nesting_is_refused_past_the_depth(rt: HostRuntime) -> Result<(), Fail> {
         (127, "TooDeep"),
         (128, "NotJson"),
     ] {
-        let lists = nested(rt.alloc(), b"[", b"", b"]", times)?;
+        let arrays = nested(rt.alloc(), b"[", b"", b"]", times)?;
         let want = if fault.is_empty() {
-            lists.as_slice()
+            arrays.as_slice()
         } else {
             fault.as_bytes()
         };
         assert_eq!(rt;
-            outcome(rt.alloc(), &lists)?.as_slice(),
+            outcome(rt.alloc(), &arrays)?.as_slice(),
             want,
-            "{times} lists"
+            "{times} arrays"
         );
 
-        let tables = nested(rt.alloc(), b"{\"a\":", b"0", b"}", times)?;
+        let objects = nested(rt.alloc(), b"{\"a\":", b"0", b"}", times)?;
         let want = if fault.is_empty() {
-            tables.as_slice()
+            objects.as_slice()
         } else {
             fault.as_bytes()
         };
         assert_eq!(rt;
-            outcome(rt.alloc(), &tables)?.as_slice(),
+            outcome(rt.alloc(), &objects)?.as_slice(),
             want,
-            "{times} tables"
+            "{times} objects"
         );
     }
     let deepest = nested(rt.alloc(), b"[", b"", b"]", 127)?;
     assert!(rt; read(rt.alloc(), &deepest, 127).is_ok());
 
-    // What nests too deep is told before a number that isn't whole, wherever the two stand.
+    // What nests too deep is reported before a number that isn't an integer, wherever the two are.
     let both = nested(rt.alloc(), b"[1.5,[", b"", b"]]", 33)?;
     assert_eq!(rt;
         outcome(rt.alloc(), &both)?.as_slice(),
@@ -183,7 +184,7 @@ fn a_pointer_finds_what_it_names(rt: HostRuntime) -> Result<(), Fail> {
     let Ok(value) = read(rt.alloc(), bytes, DEPTH) else {
         return Err(Fail::from("no value"));
     };
-    let table: [(&str, &[u8]); 27] = [
+    let cases: [(&str, &[u8]); 27] = [
         (
             "",
             b"{\"\":13,\"0\":17,\"a\":[10,[11],{\"b\":12}],\"m~n\":14,\"o/p\":15,\"~1\":16}",
@@ -215,7 +216,7 @@ fn a_pointer_finds_what_it_names(rt: HostRuntime) -> Result<(), Fail> {
         ("/m~", b"none"),
         ("/~1", b"none"),
     ];
-    for (pointer, want) in table {
+    for (pointer, want) in cases {
         let found = at_pointer(&value, pointer);
         let got = match found {
             Some(json) => text(rt.alloc(), json)?.into_vec(),
@@ -254,13 +255,13 @@ fn a_value_is_built_looked_into_and_copied(rt: HostRuntime) -> Result<(), Fail> 
     assert!(rt; is_same(&value, &other));
     assert!(rt; !is_same(&value, &Json::Null));
     let Some(Json::Items(list)) = get(&other, "b") else {
-        return Err(Fail::from("no list"));
+        return Err(Fail::from("no array"));
     };
     assert!(rt; !is_same(&value, &Json::Items(JsonList::empty(rt.alloc()))));
     assert_eq!(rt; list.len(), 2);
     assert!(rt; matches!(list.item(0), Json::Whole(number) if number.get() == -1));
     let Json::Table(map) = &other else {
-        return Err(Fail::from("no table"));
+        return Err(Fail::from("no object"));
     };
     assert_eq!(rt; map.len(), 2);
     assert_eq!(rt; map.key_at(1).get(), "b");
@@ -269,21 +270,21 @@ fn a_value_is_built_looked_into_and_copied(rt: HostRuntime) -> Result<(), Fail> 
 }
 
 #[test]
-fn a_value_is_taken_out_and_null_stays(rt: HostRuntime) -> Result<(), Fail> {
+fn a_value_that_is_taken_leaves_null(rt: HostRuntime) -> Result<(), Fail> {
     let Json::Table(mut map) = built(rt.alloc())? else {
-        return Err(Fail::from("no table"));
+        return Err(Fail::from("no object"));
     };
-    let whole = copy_map(rt.alloc(), &map)?;
+    let before = copy_map(rt.alloc(), &map)?;
     assert!(rt; map.take("c").is_none());
     assert!(rt; matches!(map.take("a"), Some(Json::Truth(true))));
-    let left = Json::Table(map);
-    is_one_line(&left);
+    let rest = Json::Table(map);
+    is_one_line(&rest);
     assert_eq!(rt;
-        text(rt.alloc(), &left)?.get(),
+        text(rt.alloc(), &rest)?.get(),
         b"{\"a\":null,\"b\":[-1,\"x\"]}".as_slice()
     );
     assert_eq!(rt;
-        text(rt.alloc(), &Json::Table(whole))?.get(),
+        text(rt.alloc(), &Json::Table(before))?.get(),
         b"{\"a\":true,\"b\":[-1,\"x\"]}".as_slice()
     );
     Ok(())
@@ -298,7 +299,68 @@ fn what_was_written_is_read_as_the_same_value(rt: HostRuntime) -> Result<(), Fai
     };
     assert!(rt; is_same(&value, &again));
     reads_back(&Json::Null, 1);
+    texts_are_no_longer();
     Ok(())
+}
+
+#[test]
+fn a_text_is_appended_after_what_the_buffer_holds(rt: HostRuntime) -> Result<(), Fail> {
+    let mut out = b"{}\n".to_vec(rt.alloc())?;
+    append_text(rt.alloc(), &built(rt.alloc())?, &mut out)?;
+    append_text(rt.alloc(), &Json::Null, &mut out)?;
+    let escaped = Json::Text(Str::of(rt.alloc(), "\"\n\u{1}\u{e9}")?);
+    append_text(rt.alloc(), &escaped, &mut out)?;
+    assert_eq!(rt;
+        out.as_slice(),
+        b"{}\n{\"a\":true,\"b\":[-1,\"x\"]}null\"\\\"\\n\\u0001\xc3\xa9\"".as_slice()
+    );
+    Ok(())
+}
+
+#[test]
+fn a_text_is_written_into_room_that_is_there(rt: HostRuntime) -> Result<(), Fail> {
+    let mut out = Vec::with_capacity(rt.alloc(), 64)?;
+    append_text(rt.alloc(), &built(rt.alloc())?, &mut out)?;
+    assert_eq!(rt; out.len(), 23);
+    assert_eq!(rt; out.capacity(), 64);
+    Ok(())
+}
+
+#[test]
+fn a_pointer_is_written_name_by_name(rt: HostRuntime) -> Result<(), Fail> {
+    let bytes = b"{\"a\":[10,[11],{\"b\":12}],\"\":13,\"~1/\\u00e9\":{\"~\":14}}";
+    let Ok(value) = read(rt.alloc(), bytes, DEPTH) else {
+        return Err(Fail::from("no value"));
+    };
+    let cases: [(&[&str], &str, &[u8]); 5] = [
+        (&["a", "1", "0"], "/a/1/0", b"11"),
+        (&["a", "2", "b"], "/a/2/b", b"12"),
+        (&[""], "/", b"13"),
+        (&["~1/\u{e9}", "~"], "/~01~1\u{e9}/~0", b"14"),
+        (&["a", "3"], "/a/3", b"none"),
+    ];
+    for (names, want, meant) in cases {
+        let mut pointer = String::new(rt.alloc());
+        for name in names {
+            push_token(rt.alloc(), &mut pointer, name)?;
+        }
+        assert_eq!(rt; pointer.as_str(), want);
+        let got = match at_pointer(&value, &pointer) {
+            Some(json) => text(rt.alloc(), json)?.into_vec(),
+            None => b"none".to_vec(rt.alloc())?,
+        };
+        assert_eq!(rt; got.as_slice(), meant, "at {want}");
+    }
+    written_pointers_find();
+    Ok(())
+}
+
+#[test]
+fn each_fault_of_a_text_is_a_fault_of_reading(rt: HostRuntime) {
+    for told in [TextFault::NotJson, TextFault::TooDeep, TextFault::NotWhole] {
+        assert_eq!(rt; JsonFault::from(told).text_fault(), Some(told));
+    }
+    assert_eq!(rt; JsonFault::Memory.text_fault(), None);
 }
 
 #[test]
@@ -317,30 +379,27 @@ fn numbers_end_at_64_bits(rt: HostRuntime) {
 }
 
 #[test]
-fn texts_and_bytes_keep_their_contents(rt: HostRuntime) -> Result<(), Fail> {
+fn strings_and_bytes_keep_their_contents(rt: HostRuntime) -> Result<(), Fail> {
     let text = Str::of(rt.alloc(), "\u{e9}")?;
     assert_eq!(rt; text.get(), "\u{e9}");
     assert_eq!(rt; Str::from_string(text.into_string()).get(), "\u{e9}");
     let bytes = Bytes::of(rt.alloc(), b"\x00\xff")?;
     assert_eq!(rt; bytes.get(), b"\x00\xff".as_slice());
-    assert_eq!(rt;
-        Bytes::from_vec(bytes.into_vec()).get(),
-        b"\x00\xff".as_slice()
-    );
+    assert_eq!(rt; Bytes::from(bytes.into_vec()).get(), b"\x00\xff".as_slice());
     Ok(())
 }
 
 #[test]
-fn each_fault_has_its_words(rt: HostRuntime) -> Result<(), Fail> {
-    let table = [
+fn each_fault_has_its_message(rt: HostRuntime) -> Result<(), Fail> {
+    let cases = [
         (JsonFault::NotJson, "not JSON"),
         (JsonFault::TooDeep, "nested too deep"),
         (JsonFault::NotWhole, "number is not whole"),
         (JsonFault::Memory, "want of memory"),
     ];
-    for (fault, words) in table {
+    for (fault, message) in cases {
         let shown = fault.to_string(rt.alloc())?;
-        assert_eq!(rt; shown.as_str(), words);
+        assert_eq!(rt; shown.as_str(), message);
     }
     Ok(())
 }

@@ -1,4 +1,4 @@
-//! A JSON value, its lists and its tables.
+//! A JSON value, its arrays and its objects.
 ghost use Rattle.std.specs.Prelude.{◌≡◌, ◌≢◌, ◌<◌, List, ℕ, nat_eq, [], ◌∷◌, ◌++◌, length, slice_get, OnOk, OnErr, IfOk, IfErr, IsSome, IsNone, Some, None, map, option_map};
 ghost use Rattle.std.specs.Ordering.{nat_cmp};
 ghost use Rattle.std.specs.Cmp.Lexicographic.{slice_cmp, pointwise};
@@ -17,7 +17,7 @@ use std::mem;
 #[cycle(json)]
 #[derive(Debug, Drop)]
 pub enum Json {
-    /// The word `null`.
+    /// `null`.
     Null,
     /// `true` or `false`.
     Truth(bool),
@@ -31,14 +31,14 @@ pub enum Json {
     Table(JsonMap),
 }
 
-/// The items of a list, seen as the list of their meanings.
+/// The items of an array, seen as the list of their meanings.
 #[cycle(json)]
 #[derive(Debug, Drop)]
 pub struct JsonList {
     items: Vec<Json>,
 }
 
-/// The entries of a table, seen as the list of keys and meanings, ascending by the keys' bytes.
+/// The entries of an object, seen as the list of keys and meanings, ascending by the keys' bytes.
 #[cycle(json)]
 #[derive(Debug, Drop)]
 pub struct JsonMap {
@@ -123,7 +123,7 @@ impl Json {
 impl JsonList {
     ghost use Rattle.doip_json.specs.Meaning.{value_of};
 
-    /// A list with no items, which takes no memory.
+    /// An array with no items, which takes no memory.
     pub fn empty(alloc: Global) -> JsonList
         ensures { result ≡ [] }
     {
@@ -132,7 +132,7 @@ impl JsonList {
         }
     }
 
-    /// Adds the item at the end. Without memory the list stays as it was.
+    /// Adds the item at the end. Out of memory the array stays as it was.
     pub fn push(&mut self, item: Json) -> Result<(), AllocError>
         ensures ok { OnOk result (self.new ≡ self.old ++ value_of item ∷ []) }
         ensures err { OnErr result (self.new ≡ self.old) }
@@ -142,6 +142,7 @@ impl JsonList {
         Ok(())
     }
 
+    /// How many items there are.
     pub fn len(&self) -> usize
         ensures { result ≡ length self.now }
     {
@@ -169,7 +170,7 @@ impl JsonMap {
     ghost use Rattle.doip_json.specs.Value.{entries_from, null};
     ghost use Rattle.doip_json.specs.Look.{entry_of};
 
-    /// A table with no entries, which takes no memory.
+    /// An object with no entries, which takes no memory.
     pub fn empty(alloc: Global) -> JsonMap
         ensures { result ≡ [] }
     {
@@ -178,10 +179,10 @@ impl JsonMap {
         }
     }
 
-    /// Puts the value at the key, in place of one that is there. Without memory the table stays as it was.
+    /// Puts the value at the key, in place of one that is there. Out of memory the object stays as it was.
     ///
-    /// It searches in halves. A new key moves the entries behind it by one place, so keys that come in
-    /// their order are added at the end.
+    /// The key is found by binary search. A new key moves the entries after it by one place, so keys that come in their
+    /// order are added at the end.
     pub fn put(&mut self, key: Str, value: Json) -> Result<(), AllocError>
         ensures ok { OnOk result
             (self.new ≡ insert_entry (slice_cmp nat_cmp) self.old key (value_of value)) }
@@ -213,7 +214,7 @@ impl JsonMap {
         Ok(())
     }
 
-    /// Takes the value at the key, with no copy, and leaves null in its place. `None` exactly where the table lacks the
+    /// Takes the value at the key, with no copy, and leaves null in its place. `None` exactly when the object lacks the
     /// key, and then it stays as it was.
     pub fn take(&mut self, key: &str) -> Option<Json>
         ensures value { option_map value_of result ≡ entry_of key.now (entries_from self.old) }
@@ -228,8 +229,8 @@ impl JsonMap {
         }
     }
 
-    /// Removes the key, and returns its value with no copy. `None` exactly when the object lacks the key, and then it stays
-    /// as it was. The entries after it move by one place.
+    /// Removes the key, and returns its value with no copy. `None` exactly when the object lacks the key, and then it
+    /// stays as it was. The entries after it move by one place.
     pub fn remove(&mut self, key: &str) -> Option<Json>
         ensures value { option_map value_of result ≡ entry_of key.now (entries_from self.old) }
         ensures rest { self.new ≡ remove_entry (pointwise nat_eq key.now) self.old }
@@ -246,7 +247,7 @@ impl JsonMap {
         }
     }
 
-    /// The value at the key, `None` exactly when the object lacks the key. It searches in halves.
+    /// The value at the key, `None` exactly when the object lacks the key. It is found by binary search.
     pub fn get(&self, key: &str) -> Option<&Json>
         ensures { option_map (λ found. value_of found.now) result ≡ entry_of key.now (entries_from self.now) }
     {
@@ -271,6 +272,7 @@ impl JsonMap {
         self.entries.len()
     }
 
+    /// The key of this number, from 0.
     pub fn key_at(&self, i: usize) -> &Str
         requires { i < length self.now }
         ensures { slice_get (keys_of self.now) i ≡ Some result.now }
@@ -278,6 +280,7 @@ impl JsonMap {
         &self.entries[i].0
     }
 
+    /// The value of this number, from 0.
     pub fn value_at(&self, i: usize) -> &Json
         requires { i < length self.now }
         ensures { slice_get (values_of self.now) i ≡ Some (value_of result.now) }

@@ -1,4 +1,5 @@
--- What a request asks, as plain data, and what it or a response brings beside its properties (DOIP 2.0, requests and responses).
+-- What a request asks, as plain data, and what it or a response brings beside its properties (DOIP 2.0, requests and
+-- responses).
 use Rattle.std.specs.Prelude.{ℕ, List, Option, option_map}
 use Rattle.doip_json.specs.Value.{Value, Entries, entries_from}
 use Rattle.doip_json.specs.Meaning.{value_of}

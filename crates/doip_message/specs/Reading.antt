@@ -1,6 +1,7 @@
--- The request that a message spells, or its first fault (the properties are those of DOIP 2.0; the order is this project's own).
+-- The request that a message is, or its first fault (the properties are those of DOIP 2.0; the order is this project's
+-- own).
 use Rattle.std.specs.Prelude.{◌≡◌, ℕ, List, [], ◌∷◌, Option, None, Some, Result, Ok, Err, codes}
-use Rattle.doip_json.specs.declared.reading.JsonFault.{JsonFault}
+use Rattle.doip_json.specs.declared.fault.TextFault.{TextFault}
 use Rattle.doip_json.specs.Value.{Value, null, text, table, Entries, no_entries}
 use Rattle.doip_json.specs.Look.{field_of}
 use Rattle.doip_json.specs.Read.{reading}
@@ -64,7 +65,7 @@ input_in None (s ∷ ss) = Ok (parts (s ∷ ss))
 input_in (Some v) [] = Ok (one_value v)
 input_in (Some v) (s ∷ ss) = Err TwoInputs
 
--- The properties of a first segment that are read, as they stand there: each absent where it is `null`.
+-- The properties of a first segment that are read, each absent where it is `null`.
 pub record PropertyValues : Type 0 where
   pub request_id : Option Value
   pub target_id : Option Value
@@ -110,7 +111,7 @@ with_request_id (Ok request_id) (Err why) = Err (fault_with request_id why)
 with_request_id (Ok request_id) (Ok properties) = Ok (record { request_id = request_id; properties = properties })
 
 -- the JSON object that a value is
-abbrev pub object_in : Result Value JsonFault → Result Value Why
+abbrev pub object_in : Result Value TextFault → Result Value Why
 object_in (Err fault) = Err (Json fault)
 object_in (Ok (table es)) = Ok (table es)
 object_in (Ok v) = Err NotTable

@@ -1,4 +1,5 @@
--- The message of a response, and the text of a reply (the properties are those of DOIP 2.0; which keys stand where is this project's own).
+-- The message of a response, and the text of a reply (the properties are those of DOIP 2.0; where each is written is
+-- this project's own).
 use Rattle.std.specs.Prelude.{ℕ, ◌≤◌, List, [], ◌∷◌, ◌++◌, length, Option, None, Some, option_map, codes}
 use Rattle.std.specs.List.{AllByRecursion}
 use Rattle.doip_json.specs.Value.{Value, text, table, entries_from}
@@ -32,7 +33,12 @@ pub record Replied : Type 0 where
 
 -- what a response replies
 abbrev pub replied_of : Response → Replied
-replied_of p = record { request_id = p.request_id; status = p.status; attributes = p.attributes; output = content_of p.output }
+replied_of p = record {
+  request_id = p.request_id;
+  status = p.status;
+  attributes = p.attributes;
+  output = content_of p.output;
+}
 
 -- an entry for a value that is there
 abbrev pub entry_for : List ℕ → Option Value → List (List ℕ × Value)
@@ -56,7 +62,7 @@ output_parts (parts ss) = ss
 output_parts no_content = []
 output_parts (one_value v) = []
 
--- the entries of a first segment, ascending: attributes, output and request id where they are there, and the status
+-- the entries of a first segment, ascending: attributes, output and request id if they are there, and the status
 abbrev pub entries_with : Option Value → Option Value → Option (List ℕ) → Status → List (List ℕ × Value)
 entries_with attributes output request_id status =
     entry_for (codes "attributes") attributes ++ entry_for (codes "output") output

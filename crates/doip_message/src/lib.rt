@@ -1,7 +1,7 @@
 //! Requests and responses, read from messages and written as messages.
 //!
 //! The properties are those of DOIP 2.0; the order of faults and the constant texts are this project's own. Read
-//! `request_of` first. `response_message` writes what the server answers.
+//! `request_of` first. `response_message` writes what the server replies.
 #![tactic(auto)]
 
 mod reading;

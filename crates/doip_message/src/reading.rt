@@ -8,7 +8,7 @@ ghost use Rattle.doip_message.specs.Reading.{unless_null, optional_text, require
 ghost use Rattle.doip_message.specs.Fields.{view_of, asking_view};
 
 use crate::request::{Body, FieldName, Request, RequestFault, Why};
-use doip_json::{Json, JsonFault, JsonMap, Str, read};
+use doip_json::{Json, JsonMap, Str, read};
 use doip_segment::{Kind, Message};
 use std::alloc::{AllocError, Global};
 
@@ -36,7 +36,7 @@ struct Asking {
     input: Body,
 }
 
-/// The request that a message spells, or its first fault.
+/// The request that a message is, or its first fault.
 ///
 /// # Errors
 /// The first of these that holds, in this order; the last two carry the request id where that property is a string.
@@ -45,16 +45,16 @@ struct Asking {
 /// |---|---|
 /// | `NoSegment` | the message has no segment |
 /// | `FirstIsBytes` | its first segment is bytes |
-/// | `Json` | its first segment is not JSON, nests deeper than 64, or has a number that isn't whole |
+/// | `Json` | its first segment is not JSON, nests deeper than 64, or has a number that isn't an integer |
 /// | `NotTable` | its first segment is no JSON object |
-/// | `Field` | `requestId`, `targetId`, `operationId` or `attributes`, in this order, has another kind of value, or a required one is absent |
+/// | `Field` | `requestId`, `targetId`, `operationId` or `attributes`, in this order, is of another kind or missing |
 /// | `TwoInputs` | there is an `input` and a further segment |
 ///
 /// `null` for an optional property counts as absent, as does an empty JSON object of `authentication`; other properties
 /// are not read. `Memory` comes only when an allocation was refused.
 ///
-/// It takes time linear in the length of the message: the values are those that the reader of JSON made, and the contents
-/// of further segments are copied once.
+/// It takes time linear in the length of the message: the values are those that the reader of JSON made, and the
+/// contents of further segments are copied once.
 pub fn request_of(alloc: Global, message: &Message) -> Result<Request, RequestFault>
     ensures { IsRequest result (request message.now.segments) }
 {
@@ -103,8 +103,10 @@ fn first_object_of(alloc: Global, message: &Message) -> Result<JsonMap, Why>
     match read(alloc, message.bytes(0), DEPTH) {
         Ok(Json::Table(object)) => Ok(object),
         Ok(_) => Err(Why::NotTable),
-        Err(JsonFault::Memory) => Err(Why::Memory),
-        Err(fault) => Err(Why::Json(fault)),
+        Err(fault) => match fault.text_fault() {
+            Some(fault) => Err(Why::Json(fault)),
+            None => Err(Why::Memory),
+        },
     }
 }
 

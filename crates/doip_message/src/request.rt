@@ -1,5 +1,5 @@
 //! A request, and why a message is none.
-use doip_json::{Json, JsonFault, JsonMap, Str};
+use doip_json::{Json, JsonMap, Str, TextFault};
 use doip_segment::Message;
 
 /// What a request brings, or a response returns, beside its properties.
@@ -22,9 +22,9 @@ pub struct Request {
     pub target_id: Str,
     /// The identifier of the operation.
     pub operation_id: Str,
-    /// The operation's arguments; empty where the request has none.
+    /// The operation's arguments; empty if the request has none.
     pub attributes: JsonMap,
-    /// Who asks, absent where the request has none or an empty JSON object.
+    /// Who asks, absent if the request has none or an empty JSON object.
     pub authentication: Option<Json>,
     /// The input.
     pub input: Body,
@@ -47,22 +47,22 @@ pub enum Why {
     NoSegment,
     /// Its first segment is bytes.
     FirstIsBytes,
-    /// Its first segment isn't JSON, nests deeper than 64, or has a number that isn't whole.
-    Json(JsonFault),
+    /// Its first segment isn't JSON, nests deeper than 64, or has a number that isn't an integer.
+    Json(TextFault),
     /// Its first segment is no JSON object.
     NotTable,
     /// A property is absent, or has another kind of value.
     Field { name: FieldName },
     /// It has an input in its first segment and segments after it.
     TwoInputs,
-    /// There was no memory.
+    /// An allocation was refused.
     Memory,
 }
 
-/// A message that is no request, with its request id where the fault leaves it readable.
+/// A message that is no request, with its request id if the fault leaves it readable.
 #[derive(Debug, Drop)]
 pub struct RequestFault {
-    /// Present for faults of a property and for two inputs, where the property is a string.
+    /// Present for faults of a property and for two inputs, if the property is a string.
     pub request_id: Option<Str>,
     /// The first fault.
     pub why: Why,

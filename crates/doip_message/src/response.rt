@@ -51,7 +51,7 @@ impl Status {
 /// What a service replies.
 #[derive(Debug, Drop)]
 pub struct Response {
-    /// The request id, where the request had one.
+    /// The request id, if the request had one.
     pub request_id: Option<Str>,
     /// How it ended.
     pub status: Status,

@@ -1,6 +1,6 @@
 //! First segments with the request or the fault that each gives, and responses with their bytes.
 use super::*;
-use doip_json::{Bytes, Json, JsonFault, JsonMap, Str, read, text};
+use doip_json::{Bytes, Json, JsonMap, Str, TextFault, read, text};
 use doip_segment::{Kind, Message};
 use std::alloc::{AllocError, Global};
 use std::test::Fail;
@@ -36,7 +36,7 @@ fn shown(alloc: Global, request: Request) -> Result<Vec<u8>, AllocError> {
         Body::Nothing => Bytes::of(alloc, b"-")?,
         Body::Value(value) => text(alloc, value)?,
         Body::Parts(parts) => {
-            Bytes::from_vec(format!(in alloc; "{} more", parts.count())?.into_bytes())
+            Bytes::from(format!(in alloc; "{} more", parts.count())?.into_bytes())
         }
     };
     let mut out = Vec::new(alloc);
@@ -62,19 +62,22 @@ fn each_first_segment_gives_its_request(rt: HostRuntime) -> Result<(), Fail> {
             b"-;t;o;{};-;1 more;",
         ),
         (
-            b"{\"requestId\":\"a\",\"targetId\":\"t\",\"operationId\":\"o\",\"attributes\":{\"k\":null},\"authentication\":{\"u\":\"x\"},\"input\":[1]}",
+            b"{\"requestId\":\"a\",\"targetId\":\"t\",\"operationId\":\"o\",\
+              \"attributes\":{\"k\":null},\"authentication\":{\"u\":\"x\"},\"input\":[1]}",
             false,
             b"a;t;o;{\"k\":null};{\"u\":\"x\"};[1];",
         ),
         // The order of the properties is free, and others are not read.
         (
-            b" { \"x\" : 1 , \"operationId\" : \"o\" , \"clientId\" : 2 , \"targetId\" : \"t\" , \"requestId\" : \"a\" } ",
+            b" { \"x\" : 1 , \"operationId\" : \"o\" , \"clientId\" : 2 ,\
+              \"targetId\" : \"t\" , \"requestId\" : \"a\" } ",
             false,
             b"a;t;o;{};-;-;",
         ),
         // Null counts as absent.
         (
-            b"{\"requestId\":null,\"targetId\":\"t\",\"operationId\":\"o\",\"attributes\":null,\"authentication\":null,\"input\":null}",
+            b"{\"requestId\":null,\"targetId\":\"t\",\"operationId\":\"o\",\
+              \"attributes\":null,\"authentication\":null,\"input\":null}",
             false,
             b"-;t;o;{};-;-;",
         ),
@@ -123,12 +126,12 @@ fn field(name: FieldName) -> Why {
 fn the_first_fault_is_reported_with_the_request_id(rt: HostRuntime) -> Result<(), Fail> {
     let alloc = rt.alloc();
     let rows: [(&[u8], bool, Why, &[u8]); 25] = [
-        (b"x", true, Why::Json(JsonFault::NotJson), b"-"),
-        (b"[1.5]", false, Why::Json(JsonFault::NotWhole), b"-"),
+        (b"x", true, Why::Json(TextFault::NotJson), b"-"),
+        (b"[1.5]", false, Why::Json(TextFault::NotWhole), b"-"),
         (
             b"{\"requestId\":\"a\",\"input\":1.5}",
             true,
-            Why::Json(JsonFault::NotWhole),
+            Why::Json(TextFault::NotWhole),
             b"-",
         ),
         (b"[]", false, Why::NotTable, b"-"),
@@ -264,8 +267,8 @@ fn the_first_fault_is_reported_with_the_request_id(rt: HostRuntime) -> Result<()
             Ok(_) => return Err(Fail::from("no fault")),
             Err(fault) => {
                 assert_eq!(rt; fault.why, why, "{first:?}");
-                let told = text_or_dash(alloc, &fault.request_id)?;
-                assert_eq!(rt; told.get(), request_id, "{first:?}");
+                let shown = text_or_dash(alloc, &fault.request_id)?;
+                assert_eq!(rt; shown.get(), request_id, "{first:?}");
             }
         }
     }
@@ -299,7 +302,7 @@ fn a_message_without_a_first_text_is_no_request(rt: HostRuntime) -> Result<(), F
     Ok(())
 }
 
-// A request whose input nests this often, round a number that isn't whole where asked.
+// A request whose input nests this often, round a number that isn't an integer if asked.
 fn nested(alloc: Global, times: u8, has_fraction: bool) -> Result<Message, AllocError> {
     let mut first = Vec::new(alloc);
     first.extend_from_slice(b"{\"targetId\":\"t\",\"operationId\":\"o\",\"input\":")?;
@@ -321,10 +324,10 @@ fn a_first_segment_nests_at_most_64_deep(rt: HostRuntime) -> Result<(), Fail> {
     let alloc = rt.alloc();
     assert!(rt; request_of(alloc, &nested(alloc, 63, false)?).is_ok());
     for (times, has_fraction, why) in [
-        (64, false, JsonFault::TooDeep),
-        (64, true, JsonFault::TooDeep),
-        (63, true, JsonFault::NotWhole),
-        (127, true, JsonFault::NotJson),
+        (64, false, TextFault::TooDeep),
+        (64, true, TextFault::TooDeep),
+        (63, true, TextFault::NotWhole),
+        (127, true, TextFault::NotJson),
     ] {
         match request_of(alloc, &nested(alloc, times, has_fraction)?) {
             Ok(_) => return Err(Fail::from("no fault")),
@@ -403,12 +406,12 @@ fn each_response_has_its_first_segment(rt: HostRuntime) -> Result<(), Fail> {
             },
             None => Body::Nothing,
         };
-        let answered = response(alloc, request_id, Status::Done, message, output)?;
-        let made = response_message(alloc, &answered)?;
+        let reply = response(alloc, request_id, Status::Done, message, output)?;
+        let made = response_message(alloc, &reply)?;
         assert_eq!(rt; made.count(), 1);
         assert!(rt; matches!(made.kind(0), Kind::Json));
         assert_eq!(rt; made.bytes(0), want);
-        let moved = answered.into_message(alloc)?;
+        let moved = reply.into_message(alloc)?;
         assert_eq!(rt; (moved.count(), moved.bytes(0)), (1, want));
     }
     Ok(())
@@ -420,8 +423,8 @@ fn parts_follow_the_first_segment(rt: HostRuntime) -> Result<(), Fail> {
     let mut parts = Message::empty(alloc);
     parts.push(Kind::Bytes, b"")?;
     parts.push(Kind::Json, b"[ 1 ]")?;
-    let answered = response(alloc, Some("a"), Status::Done, None, Body::Parts(parts))?;
-    let message = response_message(alloc, &answered)?;
+    let reply = response(alloc, Some("a"), Status::Done, None, Body::Parts(parts))?;
+    let message = response_message(alloc, &reply)?;
     assert_eq!(rt; message.count(), 3);
     assert_eq!(rt;
         message.bytes(0),
@@ -431,7 +434,7 @@ fn parts_follow_the_first_segment(rt: HostRuntime) -> Result<(), Fail> {
     assert_eq!(rt; message.bytes(1), b"".as_slice());
     assert!(rt; matches!(message.kind(2), Kind::Json));
     assert_eq!(rt; message.bytes(2), b"[ 1 ]".as_slice());
-    let moved = answered.into_message(alloc)?;
+    let moved = reply.into_message(alloc)?;
     assert_eq!(rt; (moved.count(), moved.bytes(2)), (3, message.bytes(2)));
     Ok(())
 }

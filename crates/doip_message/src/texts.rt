@@ -7,11 +7,11 @@ ghost use Rattle.doip_message.specs.Fixed.{memory_reply, disk_reply, closed_repl
 pub const MEMORY_TEXT: &[u8] =
     b"{\"attributes\":{\"message\":\"want of memory\"},\"status\":\"0.DOIP/Status.500\"}\n#\n#\n";
 
-/// The reply where the disk failed in a turn.
+/// The reply if the disk failed in a turn.
 pub const DISK_TEXT: &[u8] =
     b"{\"attributes\":{\"message\":\"disk fault\"},\"status\":\"0.DOIP/Status.500\"}\n#\n#\n";
 
-/// The reply where the disk failed in an earlier turn.
+/// The reply if the disk failed in an earlier turn.
 pub const CLOSED_TEXT: &[u8] =
     b"{\"attributes\":{\"message\":\"store closed\"},\"status\":\"0.DOIP/Status.500\"}\n#\n#\n";
 

@@ -15,15 +15,16 @@ use doip_json::{Json, JsonMap, Str, copy, copy_map, is_one_line, text};
 use doip_segment::{Kind, Message};
 use std::alloc::{AllocError, Global};
 
-/// The message of a response. Its first segment is a JSON object with `attributes` where they aren't empty, `output` where
-/// the output is one JSON value, `requestId` where the request had one, and `status`; parts follow as segments.
+/// The message of a response. Its first segment is a JSON object with `attributes` if they aren't empty, `output` if
+/// the output is one JSON value, `requestId` if the request had one, and `status`; parts follow as segments.
 ///
-/// It copies the attributes and the output once, and then writes them as text. Who has no more use for the response calls
-/// `Response::into_message`.
+/// It copies the attributes and the output once, and then writes them as text. A caller that has no more use for the
+/// response calls `Response::into_message`.
 pub fn response_message(alloc: Global, response: &Response) -> Result<Message, AllocError>
     ensures segments { IfOk result (λ m. m.segments ≡ response_segments (replied_of response.now)) }
-    // It can be encoded where its parts can stand after one more segment.
-    ensures encodable { IfOk result (λ m. CanFollow (output_parts (content_of response.now.output)) → AreEncodable m.segments) }
+    // It can be encoded if its parts can follow one more segment.
+    ensures encodable { IfOk result (λ m. CanFollow (output_parts (content_of response.now.output))
+        → AreEncodable m.segments) }
 {
     let request_id = match &response.request_id {
         None => None,
@@ -40,7 +41,8 @@ impl Response {
     /// into it and not copied.
     pub fn into_message(self, alloc: Global) -> Result<Message, AllocError>
         ensures segments { IfOk result (λ m. m.segments ≡ response_segments (replied_of self)) }
-        ensures encodable { IfOk result (λ m. CanFollow (output_parts (content_of self.output)) → AreEncodable m.segments) }
+        ensures encodable { IfOk result (λ m. CanFollow (output_parts (content_of self.output))
+            → AreEncodable m.segments) }
     {
         let Response {
             request_id,

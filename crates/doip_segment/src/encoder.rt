@@ -74,5 +74,5 @@ pub fn encode(alloc: Global, message: &Message) -> Result<Bytes, AllocError>
         put_segment(alloc, &mut out, message.kind(i), message.bytes(i))?;
     }
     out.extend_from_slice(b"#\n")?;
-    Ok(Bytes::from_vec(out))
+    Ok(Bytes::from(out))
 }

@@ -1,6 +1,6 @@
 -- Each reply of the step differs from the fixed texts in one of its first letters.
 use Rattle.std.proofs.Common.{◌≡◌, ◌≢◌, ℕ, List, get_or, Bool, true, false, Option, None, Some, is_none, Result, Ok, Err, refl, ap, ◌∙◌, sym, arith}
-use Rattle.doip_json.specs.declared.reading.JsonFault.TheVariants as json
+use Rattle.doip_json.specs.declared.fault.TextFault.TheVariants as json
 use Rattle.doip_message.specs.declared.request.FieldName.TheVariants as names
 use Rattle.doip_message.specs.declared.request.RequestFault.{RequestFault}
 use Rattle.doip_message.specs.declared.request.Why.TheVariants.{NoSegment, FirstIsBytes, Json, NotTable, Field, TwoInputs, Memory}
@@ -71,8 +71,6 @@ refusal_is_none id (Invalid (Json json.TooDeep)) =
     by_second (Invalid (Json json.TooDeep)) refl (λ m. refl) refl (λ m. refl) id
 refusal_is_none id (Invalid (Json json.NotWhole)) =
     by_second (Invalid (Json json.NotWhole)) refl (λ m. refl) refl (λ m. refl) id
-refusal_is_none id (Invalid (Json json.Memory)) =
-    by_first (Invalid (Json json.Memory)) 34 refl (λ m. refl) (omega arith) (omega arith) (omega arith) (omega arith) id
 refusal_is_none id (Invalid NotTable) =
     by_second (Invalid NotTable) refl (λ m. refl) refl (λ m. refl) id
 refusal_is_none id (Invalid (Field names.RequestId)) =

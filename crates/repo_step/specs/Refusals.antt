@@ -1,6 +1,6 @@
 -- The status and the message of each refusal, as in the table of refusals. This project's own.
 use Rattle.std.specs.Prelude.{ℕ, List, [], Option, codes}
-use Rattle.doip_json.specs.declared.reading.JsonFault.TheVariants as json
+use Rattle.doip_json.specs.declared.fault.TextFault.TheVariants as json
 use Rattle.doip_message.specs.declared.request.FieldName.{FieldName}
 use Rattle.doip_message.specs.declared.request.FieldName.TheVariants as names
 use Rattle.doip_message.specs.declared.request.Why.{Why}
@@ -26,7 +26,6 @@ fault_message FirstIsBytes = codes "first segment is bytes"
 fault_message (Json json.NotJson) = codes "first segment: not JSON"
 fault_message (Json json.TooDeep) = codes "first segment: nested too deep"
 fault_message (Json json.NotWhole) = codes "first segment: number is not whole"
-fault_message (Json json.Memory) = []
 fault_message NotTable = codes "first segment: not an object"
 fault_message (Field name) = field_message name
 fault_message TwoInputs = codes "input twice"

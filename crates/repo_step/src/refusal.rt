@@ -4,7 +4,7 @@ ghost use Rattle.doip_message.specs.Reply.{replied_of};
 ghost use Rattle.repo_step.specs.Refusals as spec;
 ghost use Rattle.repo_step.specs.Chain as chain;
 
-use doip_json::{Json, JsonFault, JsonMap, Str};
+use doip_json::{Json, JsonMap, Str, TextFault};
 use doip_message::{Body, FieldName, Response, Status, Why};
 use std::alloc::{AllocError, Global};
 
@@ -109,14 +109,14 @@ fn fault_message(why: Why) -> &'static str
     match why {
         Why::NoSegment => "no segment",
         Why::FirstIsBytes => "first segment is bytes",
-        Why::Json(JsonFault::NotJson) => "first segment: not JSON",
-        Why::Json(JsonFault::TooDeep) => "first segment: nested too deep",
-        Why::Json(JsonFault::NotWhole) => "first segment: number is not whole",
+        Why::Json(TextFault::NotJson) => "first segment: not JSON",
+        Why::Json(TextFault::TooDeep) => "first segment: nested too deep",
+        Why::Json(TextFault::NotWhole) => "first segment: number is not whole",
         Why::NotTable => "first segment: not an object",
         Why::Field { name } => field_message(name),
         Why::TwoInputs => "input twice",
-        // No refusal is made of these.
-        Why::Json(JsonFault::Memory) | Why::Memory => "",
+        // No refusal is made of this.
+        Why::Memory => "",
     }
 }
 

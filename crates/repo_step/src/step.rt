@@ -12,7 +12,7 @@ ghost use Rattle.repo_step.specs.Step.{Effect, unchanged};
 use crate::hello::information;
 use crate::refusal::unless;
 use crate::{Config, Operation, Refusal, Stop};
-use doip_json::{JsonFault, JsonMap, Str};
+use doip_json::{JsonMap, Str};
 use doip_message::{Body, Request, Response, Status, Why, request_of};
 use doip_segment::Message;
 use std::alloc::{AllocError, Global};
@@ -95,7 +95,7 @@ fn invalid(why: Why) -> Result<Refusal, AllocError>
     ensures fault { IsOk result → why ≢ Why.Memory }
 {
     match why {
-        Why::Memory | Why::Json(JsonFault::Memory) => Err(AllocError),
+        Why::Memory => Err(AllocError),
         _ => Ok(Refusal::Invalid { why }),
     }
 }

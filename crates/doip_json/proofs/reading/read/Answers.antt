@@ -23,7 +23,7 @@ returns-then-nests_within-clause-fault c =
     converted_fault c.json_of.result _ _ outcome c.json_of.ensures.fault
 
 pub returns-else-nests_within-clause-fault : goal.returns-else-nests_within-clause-fault
-returns-else-nests_within-clause-fault c _ =
+returns-else-nests_within-clause-fault c =
     let found = c.in-Ok.ensures.ok in
     let d = view c.in-Ok.parsed in
     reading_some c.args.bytes.now c.args.depth d found.0 found.1 ∙ within_deep c.args.depth d (elim (cases_lt c.args.depth (depth d)) [
@@ -32,7 +32,7 @@ returns-else-nests_within-clause-fault c _ =
     ])
 
 pub returns-else-is_memory-clause-fault : goal.returns-else-is_memory-clause-fault
-returns-else-is_memory-clause-fault c _ = reading_none c.args.bytes.now c.args.depth (c.in-Err.ensures.err (λ memory. false≢true (c.if-is_memory.ensures.1 memory)))
+returns-else-is_memory-clause-fault c = reading_none c.args.bytes.now c.args.depth (c.in-Err.ensures.err (λ memory. false≢true (c.if-is_memory.ensures.1 memory)))
 
 pub returns-then-nests_within-clause-nests : goal.returns-then-nests_within-clause-nests
 returns-then-nests_within-clause-nests c =

@@ -1,8 +1,9 @@
-use Rattle.std.proofs.Common.{◌≡◌, ◌+◌, ◌*◌, ◌∷◌, ◌++◌, take}
+use Rattle.std.proofs.Common.{◌≡◌, ◌+◌, ◌*◌, ◌≤◌, ◌∷◌, ◌++◌, take}
 use Rattle.json.specs.Token.{begin_array, begin_object}
 use Rattle.doip_json.specs.Tokens.{item_tokens, entry_tokens}
 use Rattle.doip_json.specs.Value.{depth_of, deepest_value, deepest_entry, values_from, entries_from}
 use Rattle.doip_json.specs.Meaning.{value_of}
+use Rattle.doip_json.proofs.Rooms.{items_room, entries_room}
 use Rattle.doip_json.proofs.writing.+write.Given as goal
 
 abbrev pub decreases-write : goal.decreases-write
@@ -18,10 +19,12 @@ abbrev pub invariant-write_list-loop-i : goal.invariant-write_list-loop-i
 invariant-write_list-loop-i l = record {
   written : l.out.tokens ≡ l.fn.out.tokens ++ begin_array ∷ item_tokens (values_from (take l.i l.list));
   before : l.out.before ≡ l.fn.out.before;
+  room : l.fn.out.spare ≤ l.out.spare + (items_room (take l.i l.list) + 2);
 }
 
 abbrev pub invariant-write_map-loop-i : goal.invariant-write_map-loop-i
 invariant-write_map-loop-i l = record {
   written : l.out.tokens ≡ l.fn.out.tokens ++ begin_object ∷ entry_tokens (entries_from (take l.i l.map));
   before : l.out.before ≡ l.fn.out.before;
+  room : l.fn.out.spare ≤ l.out.spare + (entries_room (take l.i l.map) + 2);
 }
