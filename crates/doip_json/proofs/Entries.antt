@@ -63,7 +63,7 @@ map-insert (x ∷ es) (suc i) e = ap (λ r. meant x ∷ r) (map-insert es i e)
 pub added : (es : Kept) (k : Str) (j : Json) (i : ℕ) → IsGapFor k (pairs_of es) i → pairs_of (insert es i (k, j)) ≡ insert_entry compared (pairs_of es) k (value_of j)
 added es k j i gap = map-insert es i (k, j) ∙ sym (put_in_gap (pairs_of es) k (value_of j) i gap.within gap.lower gap.greater)
 
--- an entry behind the others, where the keys still ascend
+-- an entry after the others, if the keys still ascend
 pub sound_last : (ps : Pairs) (k : List ℕ) (v : Value) → IsSound (table (entries_from ps)) → IsAscending (keys_of (ps ++ (k, v) ∷ [])) → IsUtf8 k → IsSound v → IsSound (table (entries_from (ps ++ (k, v) ∷ [])))
 sound_last ps k v sound sorted key one = (subst IsAscending (sym (keys_in-entries_from (ps ++ (k, v) ∷ []))) sorted, EntriesAreSound-append ps k v sound.1 key one)
 

@@ -155,7 +155,7 @@ four a b c d u xs e =
     let r = and_parts (is_digit a 16) (is_digit b 16) q.0 in
     hex a (b ∷ c ∷ d ∷ xs) r.0 ∙ hex b (c ∷ d ∷ xs) r.1 ∙ hex c (d ∷ xs) q.1 ∙ hex d xs p.1
 
--- how the lexer stands, and the bytes of an escape that have been read
+-- the state of the lexer, and the bytes of an escape that have been read
 abbrev mode : Within → Mode
 mode plain = in_string
 mode after_backslash = in_escape

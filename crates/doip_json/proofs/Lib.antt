@@ -19,7 +19,7 @@ pub mod PlainLists
 pub mod Rooms
 pub mod Named
 pub mod Sizes
-pub mod Lexed
+pub mod Trees
 pub mod Lexemes
 pub mod Words
 pub mod Lexing

@@ -81,8 +81,8 @@ and_false false = refl
 
 no_position : (s : List ℕ) → all_ascii_digits s ≡ false → position_in s ≡ None
 no_position s e =
-    let front = nat_lt 0 (length s) && nat_le (length s) 9 && ((length s == 1) || not (slice_index s 0 == 48)) in
-    let none : is_position s ≡ false = ap (λ b. front && b) e ∙ and_false front in
+    let before = nat_lt 0 (length s) && nat_le (length s) 9 && ((length s == 1) || not (slice_index s 0 == 48)) in
+    let none : is_position s ≡ false = ap (λ b. before && b) e ∙ and_false before in
     ap (λ b. if b then Some (digits_value 10 s) else None) none
 
 pub position_in-token : (s : List ℕ) → position_in (token_of s) ≡ position_in s

@@ -13,7 +13,7 @@ use Rattle.doip_json.specs.Value.{Value}
 use Rattle.doip_json.specs.Text.{text_of}
 use Rattle.doip_json.specs.Read.{value_in, or_fault, if_data, reading}
 use Rattle.doip_json.proofs.Sizes.{data_size, tree_size, data_size-le, length-value_in, some_then}
-use Rattle.doip_json.proofs.Lexed.{Splits, value_splits, print_size}
+use Rattle.doip_json.proofs.Trees.{Splits, value_splits, print_size}
 use Rattle.doip_json.proofs.Lexing.{length-print}
 
 is_last : (i j : Json) (ts : List Token) → if_last i ts ≡ Some j → i ≡ j

@@ -32,7 +32,7 @@ members_depth-append (e ∷ es) fs = omega (arith, members_depth-append es fs)
 
 -- ---- item by item
 
--- values behind those of a list
+-- values after those of a list
 abbrev pub items_after : List Value → Values → Values
 items_after [] rest = rest
 items_after (v ∷ vs) rest = value v (items_after vs rest)
@@ -89,24 +89,24 @@ unfolding IsStrictlySortedBy
 strings_ascend [] h = tt
 strings_ascend (k ∷ ks) h = (bytes_below k ks h.0, strings_ascend ks h.1)
 
-all_front : {X : Type 0} (P : X → Type 0) (xs ys : List X) → AllByRecursion P (xs ++ ys) → AllByRecursion P xs
-all_front P [] ys h = tt
-all_front P (x ∷ xs) ys h = (h.0, all_front P xs ys h.1)
+all_before : {X : Type 0} (P : X → Type 0) (xs ys : List X) → AllByRecursion P (xs ++ ys) → AllByRecursion P xs
+all_before P [] ys h = tt
+all_before P (x ∷ xs) ys h = (h.0, all_before P xs ys h.1)
 
-front_ascends : {K : Type 0} (c : K → K → Ordering) (xs ys : List K) → IsStrictlySortedBy c (xs ++ ys) → IsStrictlySortedBy c xs
+prefix_ascends : {K : Type 0} (c : K → K → Ordering) (xs ys : List K) → IsStrictlySortedBy c (xs ++ ys) → IsStrictlySortedBy c xs
 unfolding IsStrictlySortedBy
-front_ascends c [] ys h = tt
-front_ascends c (x ∷ xs) ys h = (all_front (λ y. c x y ≡ Less) xs ys h.0, front_ascends c xs ys h.1)
+prefix_ascends c [] ys h = tt
+prefix_ascends c (x ∷ xs) ys h = (all_before (λ y. c x y ≡ Less) xs ys h.0, prefix_ascends c xs ys h.1)
 
 -- the keys of the entries so far ascend with the next one
 pub next_ascends : (es : Pairs) (done : List Entry) (x : Entry) (rest : List Entry) (v : Value) → keys_of es ≡ map string_bytes (keys_of done) → IsStrictlySortedBy string_cmp (keys_of (done ++ x ∷ rest))
     → IsAscending (keys_of (es ++ (string_bytes x.0, v) ∷ []))
 next_ascends es done x rest v same sorted =
     let first : keys_of (done ++ x ∷ rest) ≡ (keys_of done ++ x.0 ∷ []) ++ keys_of rest = map-append (λ e. e.0) done (x ∷ rest) ∙ sym (append_assoc (keys_of done) (x.0 ∷ []) (keys_of rest)) in
-    let front = front_ascends string_cmp (keys_of done ++ x.0 ∷ []) (keys_of rest) (subst (IsStrictlySortedBy string_cmp) first sorted) in
+    let prefix = prefix_ascends string_cmp (keys_of done ++ x.0 ∷ []) (keys_of rest) (subst (IsStrictlySortedBy string_cmp) first sorted) in
     let keys : map string_bytes (keys_of done ++ x.0 ∷ []) ≡ keys_of (es ++ (string_bytes x.0, v) ∷ []) =
     map-append string_bytes (keys_of done) (x.0 ∷ []) ∙ (ap (λ ks. ks ++ string_bytes x.0 ∷ []) (sym same) ∙ sym (map-append (λ e. e.0) es ((string_bytes x.0, v) ∷ []))) in
-    subst IsAscending keys (strings_ascend (keys_of done ++ x.0 ∷ []) front)
+    subst IsAscending keys (strings_ascend (keys_of done ++ x.0 ∷ []) prefix)
 
 pub keys_grow : (es : Pairs) (done : List Entry) (x : Entry) (v : Value) → keys_of es ≡ map string_bytes (keys_of done) → keys_of (es ++ (string_bytes x.0, v) ∷ []) ≡ map string_bytes (keys_of (done ++ x ∷ []))
 keys_grow es done x v same =

@@ -19,7 +19,7 @@ pub quoted_same : (s : List ℕ) → quoted s ≡ string_of s
 unfolding escape_byte
 quoted_same s = refl
 
--- each text behind a comma
+-- each text after a comma
 abbrev more : List (List ℕ) → List ℕ
 more [] = []
 more (x ∷ xs) = 44 ∷ (x ++ more xs)
@@ -64,7 +64,7 @@ mutual
   print_value true (table es) ts = ap (λ s. 44 ∷ 123 ∷ s) (print_table es ts)
   print_value false (table es) ts = ap (λ s. 123 ∷ s) (print_table es ts)
 
-  -- items behind the bracket, up to the closing one
+  -- items after the bracket, up to the closing one
   print_list : (vs : Values) (ts : List json.Token) → print_from false ((item_tokens vs ++ json.end_array ∷ []) ++ ts) ≡ (join_with_byte 44 (item_texts vs) ++ 93 ∷ []) ++ print_from true ts
   print_list no_values ts = refl
   print_list (value v vs) ts =
@@ -74,7 +74,7 @@ mutual
       ap (print_from false) shape ∙ (print_value false v rest ∙ (ap (λ s. text_of v ++ s) end
       ∙ (shift_last (text_of v) (more (item_texts vs)) 93 (print_from true ts) ∙ ap (λ s. (s ++ 93 ∷ []) ++ print_from true ts) (sym (joined (text_of v) (item_texts vs))))))
 
-  -- items behind an item
+  -- items after an item
   print_items : (vs : Values) (ts : List json.Token) → print_from true (item_tokens vs ++ ts) ≡ more (item_texts vs) ++ print_from true ts
   print_items no_values ts = refl
   print_items (value v vs) ts =

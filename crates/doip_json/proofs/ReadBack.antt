@@ -131,7 +131,7 @@ mutual
   entries_in-members_of no_entries = refl
   entries_in-members_of (entry k v es) = rw (value_in-data_of v, entries_in-members_of es) refl
 
--- ---- members that ascend are put one behind another
+-- ---- members that ascend are put one after another
 
 abbrev member_keys : parsed.Members → List (List ℕ)
 member_keys parsed.no_members = []

@@ -24,8 +24,8 @@ short_numeral s is =
     let short = nat_le (length s) 9 in
     let plain = (length s == 1) || not (slice_index s 0 == 48) in
     let all = and_parts (some && short && plain) (all_ascii_digits s) is in
-    let front = and_parts (some && short) plain all.0 in
-    let lengths = and_parts some short front.0 in
+    let before = and_parts (some && short) plain all.0 in
+    let lengths = and_parts some short before.0 in
     record { some = lt_from (length s) lengths.0; short = le_from (length s) lengths.1; digits = all.1 }
 
 -- at most 9 digits are read as a number of 32 bits
