@@ -45,7 +45,8 @@ module _ {D : Type 0} {g : Ghosts D} where
 
   -- A commit is `Full` exactly when the record and the next gate don't fit, and then it changed nothing. The only other
   -- fault is the disk's, which has counted it. After a fault `used` is as before.
-  pub record HasCommitCause {T : Type 0} (old new : Journal D g) (body : List ℕ) (result : Result T CommitFault) : Type 0 where
+  pub record HasCommitCause {T : Type 0} (old new : Journal D g) (body : List ℕ)
+      (result : Result T CommitFault) : Type 0 where
     pub full : IsErrOf result (Full (used_of old) (asked_for body)) ↔ (area_of old < used_of old + asked_for body)
     pub unchanged : area_of old < used_of old + asked_for body → new ≡ old
     pub others : IfErr result (λ fault. (fault ≡ DiskFault) ⊎ (fault ≡ Full (used_of old) (asked_for body)))

@@ -17,7 +17,8 @@ pub record IsNoFixedText (p : Replied) : Type 0 where
   pub framing : reply_text p ≢ reply_text framing_reply
 
 -- Along two lists of entries, the second begins in the state that the first left.
-pub record Continues (setting : Setting) (passes : Entry → Bool) (first : State) (before later : List Entry) : Type 0 where
+pub record Continues (setting : Setting) (passes : Entry → Bool) (first : State)
+    (before later : List Entry) : Type 0 where
   pub state : state_of setting first (before ++ later) ≡ state_of setting (state_of setting first before) later
   pub exchanges : exchanges_of setting passes first (before ++ later)
       ≡ exchanges_of setting passes first before ++ exchanges_of setting passes (state_of setting first before) later

@@ -45,8 +45,8 @@ pub record RanSession (words : List (List ℕ)) (past : List Entry) (before afte
   pub served : IsServed limits (session_pairs setting first_state 0 0 past) before after end
 
 -- A run that was handed a link returns it with the end of its session; another run has no link, no end and no history.
-abbrev pub IsRunOf : {T : Type 0} → (T → LinkState) → List (List ℕ) → List Entry → Option T → Option T → Option SessionEnd
-    → Type 0
+abbrev pub IsRunOf : {T : Type 0} → (T → LinkState) → List (List ℕ) → List Entry → Option T → Option T
+    → Option SessionEnd → Type 0
 IsRunOf state words past (Some begun) (Some link) (Some end) = RanSession words past (state begun) (state link) end
 IsRunOf state words past None None None = past ≡ []
 IsRunOf state words past _ _ _ = ⊥

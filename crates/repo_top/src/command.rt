@@ -167,7 +167,8 @@ fn take_request(arguments: &mut AnswerArguments<'_>, value: &str) -> bool
 
 // Adds the option to the command. Whether it is known, not there yet, and its value in form.
 fn take_option<'a>(arguments: &mut AnswerArguments<'a>, name: &str, value: &'a str) -> bool
-    ensures taken { IsTrue result → AddsOption (command_in arguments.old) (command_in arguments.new) name.now value.now }
+    ensures taken { IsTrue result
+        → AddsOption (command_in arguments.old) (command_in arguments.new) name.now value.now }
     ensures refused { IsFalse result → RefusesOption (command_in arguments.old) name.now value.now }
 {
     match name {

@@ -12,9 +12,9 @@ ghost use Rattle.repo_top.specs.Session.{IsSessionOf, HaveSameOutcomes};
 use repo_step::equal_causes_give_equal_texts;
 use session_core::{cuts_do_not_matter, one_input_gives_one_session};
 
-/// However the input is cut into reads: two sessions of a repository that is set up the same way, over one input and with
-/// the same outcomes turn by turn, wrote the same bytes and ended alike, if no call of a link failed. If a read may have
-/// failed, the same holds of what was written by two sessions that read the same bytes.
+/// However the input is cut into reads: two sessions of a repository that is set up the same way, over one input and
+/// with the same outcomes turn by turn, wrote the same bytes and ended alike, if no call of a link failed. If a read may
+/// have failed, two sessions that read the same bytes still wrote the same.
 pub fn outcomes_give_the_bytes()
     ensures input { (setting : Setting) (limits : Limits) (past other : List Entry) (t u : Transcript)
         → IsSessionOf setting past t → IsSessionOf setting other u → ReadOneInput limits t u

@@ -10,7 +10,7 @@ was_not : (b : Bool) → not b ≡ false → b ≡ true
 was_not true is = refl
 was_not false is = absurd (cc)
 
--- a call is not done exactly where it is listed
+-- a call is not done exactly when it is listed
 not_done : (xs failing : List Failing) (ys calls : List Noted) (call : DiskCall) (listed : Bool) → xs ≡ failing → ys ≡ calls
     → IsTrue listed ↔ Contains xs (record { call = call; nth = count_of call ys + 1 }) → (not listed ≡ false) ↔ Contains failing (record { call = call; nth = count_of call calls + 1 })
 not_done xs failing ys calls call listed first second is =
