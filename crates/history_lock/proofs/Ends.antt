@@ -1,4 +1,4 @@
--- How a lock begins, how a seat is split and two are joined, and how a lock ends.
+-- How a lock is opened, how a seat is split and two are joined, and how a lock is closed.
 use Rattle.std.proofs.Common.{◌≡◌, ◌≢◌, ℕ, zero, suc, ◌+◌, ◌<◌, ◌≤◌, Bool, true, false, ltb, if◌then◌else◌, List, [], ◌∷◌, ◌++◌, length, get_or, set, refl, ap, sym, subst, ◌∙◌, arith, inl, inr, ⊎_elim, Some, length-append, eq-eqb}
 use Rattle.std.proofs.lemmas.Bool.Decides.{nat_tests}
 use Rattle.std.proofs.lemmas.List.{append-nil}
@@ -13,9 +13,9 @@ use Rattle.history_lock.specs.declared.board.Entered.{Entered}
 use Rattle.history_lock.specs.declared.board.Share.{Share}
 use Rattle.history_lock.specs.declared.board.Slot.{Slot}
 use Rattle.history_lock.specs.declared.board.View.{View}
-use Rattle.history_lock.specs.History.{entries, entries_by, held, StandsForAll, AreOwn, AreBelow, Runs}
+use Rattle.history_lock.specs.History.{entries, entries_by, held, HoldsAll, AreOwn, AreBelow, Runs, other_shares}
 use Rattle.history_lock.specs.Rule.{below, times, fresh, AreCounted, Fits, Kept, opening_view}
-use Rattle.history_lock.specs.Told.{IsResting, longer, first_share, other_shares, note_of, one_of, rest_of, both_of, spent}
+use Rattle.history_lock.specs.Told.{IsResting, longer, first_share, note_of, one_of, rest_of, both_of, spent}
 use Rattle.history_lock.proofs.Lists.{total_set, total_snoc, total_two, total_alone, prefix_self, prefix_shorter, same_here, same_else, below_next, below_one, below_not}
 use Rattle.history_lock.proofs.Histories.{by-append, by_between, below_rest, own_moves, own-append, own_agree, counted-append, held-append, as_many}
 use Rattle.history_lock.proofs.Views.{each_set, value_stays}
@@ -233,7 +233,7 @@ module _ {T E : Type 0} (leads : T → E → T → Type 0) (first : T) (passes :
           subst (λ (z : Bool). IsPrefix (if z then ys else xs) h × IsPrefix xs (if z then ys else xs) × IsPrefix ys (if z then ys else xs)) (sym e) (q, prefix_shorter xs ys h p q (omega arith), prefix_self ys))
 
   -- at the end a view with all numbers has seen all, and has all of it under its numbers
-  pub closes : (id : ℕ) (v : View T E) (words : List ℕ) (slots : List (Slot T E)) → IsResting v → StandsForAll passes v.shares → Final (Seen (Kept leads first passes) id v) words slots
+  pub closes : (id : ℕ) (v : View T E) (words : List ℕ) (slots : List (Slot T E)) → IsResting v → HoldsAll passes v.shares → Final (Seen (Kept leads first passes) id v) words slots
       → (slot : Slot T E) × (value : T) × (get_elem? slots 0 ≡ some slot) × (slot.value ≡ Some value) × Runs leads first (entries v.seen) value
       × AreOwn v.seen v.shares × AreBelow passes v.seen × ((k : ℕ) → held k v.shares ≡ below k passes)
   closes id v words slots rest all final = let s : State (Slot T E) (View T E) = final.0 in let r : Kept leads first passes s = final.1.0 in let at = final.1.1 in let f = r.each_view id v at in

@@ -6,9 +6,8 @@ use mathlib.Core.List.{IsPrefix}
 use native.Mathlib.Decide.{ℕ_discrete}
 use Rattle.history_lock.specs.declared.board.Entered.{Entered}
 use Rattle.history_lock.specs.declared.board.Share.{Share}
-use Rattle.history_lock.specs.History.{entered, entries_by, held, StandsForAll, AreOwn, AreBelow, Runs}
+use Rattle.history_lock.specs.History.{entered, entries_by, held, HoldsAll, AreOwn, HoldsOwn, AreBelow, Runs, grown}
 use Rattle.history_lock.specs.Rule.{below, AreBegun, AreCounted}
-use Rattle.history_lock.specs.Told.{grown}
 use Rattle.history_lock.proofs.Lists.{same_here, same_else, same_turned, below_next, below_not, below_at_most, prefix_trans, prefix_whole}
 
 module _ {E : Type 0} where
@@ -44,6 +43,15 @@ module _ {E : Type 0} where
   own_moves h h' [] agree own = tt
   own_moves h h' (s ∷ ss) agree own = let here = same_here s.number s.number refl in
       (own.0 ∙ sym (agree s.number (omega arith)), own_moves h h' ss (λ k l. agree k (omega arith)) own.1)
+
+  -- the shares' own lists as one equation, and back
+  pub own_held : (h : List (Entered E)) (ss : List (Share E)) → AreOwn h ss → HoldsOwn h ss
+  own_held h [] a = refl
+  own_held h (s ∷ ss) a = let e = a.0 in let r = own_held h ss a.1 in cc
+
+  pub held_own : (h : List (Entered E)) (ss : List (Share E)) → HoldsOwn h ss → AreOwn h ss
+  held_own h [] a = tt
+  held_own h (s ∷ ss) a = (cc a, held_own h ss (cc a))
 
   pub own-append : (h : List (Entered E)) (ss ts : List (Share E)) → AreOwn h ss → AreOwn h ts → AreOwn h (ss ++ ts)
   own-append h [] ts a b = b
@@ -87,8 +95,8 @@ module _ {E : Type 0} where
   held_below-few n [] = let e = held_below-none E n in omega arith
   held_below-few n (s ∷ ss) = let e = held_below-one n s ss in let b = below_at_most s.number n in let r = held_below-few n ss in omega arith
 
-  -- who stands for all numbers has as many
-  pub as_many : (n : ℕ) (ss : List (Share E)) → StandsForAll n ss → n ≤ length ss
+  -- who holds all numbers has as many
+  pub as_many : (n : ℕ) (ss : List (Share E)) → HoldsAll n ss → n ≤ length ss
   as_many n ss all = let few = held_below-few n ss in let much = each n all in omega arith
     where
       each : (m : ℕ) → ((k : ℕ) → k < m → 0 < held k ss) → m ≤ held_below m ss

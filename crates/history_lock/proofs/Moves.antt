@@ -1,4 +1,4 @@
--- Each step of a turn keeps the rule, and tells what it is to tell.
+-- Each step of a turn keeps the rule, and tells its seat what its play says.
 use Rattle.std.proofs.Common.{◌≡◌, ◌≢◌, ℕ, ◌+◌, ◌%◌, ◌^◌, ◌<◌, true, false, List, [], ◌∷◌, ◌++◌, length, get_or, set, refl, ap, sym, subst, ◌∙◌, arith, inl, inr, ⊎_elim, Some, length-set, length-append, get_or-set_other, get_or-set_same}
 use mathlib.Core.Logic.{dite}
 use mathlib.Core.Option.{none, some, some-injective}
@@ -14,9 +14,9 @@ use Rattle.history_lock.specs.declared.board.Share.{Share}
 use Rattle.history_lock.specs.declared.board.Slot.{Slot}
 use Rattle.history_lock.specs.declared.chosen.Chosen.{Chosen}
 use Rattle.history_lock.specs.declared.board.View.{View}
-use Rattle.history_lock.specs.History.{entered, entries, same, held, AreOwn, Runs}
+use Rattle.history_lock.specs.History.{entered, entries, same, held, AreOwn, Runs, grown}
 use Rattle.history_lock.specs.Rule.{below, times, AreBegun, AreCounted, Fits, IsKeptValue, Kept}
-use Rattle.history_lock.specs.Told.{IsResting, waiting, arrived, announcing, publishing, settled, grown, AreSeen, drew, looked, announced, published, settles}
+use Rattle.history_lock.specs.Told.{IsResting, waiting, arrived, announcing, publishing, settled, AreSeen, drew, looked, announced, published, settles}
 use Rattle.history_lock.proofs.Lists.{total_set, prefix_self, prefix_shorter, same_here, below_next}
 use Rattle.history_lock.proofs.Histories.{by_here, by_else, below_snoc, own_moves, counted_moves}
 use Rattle.history_lock.proofs.Views.{each_set, at_length, fits_words, fits_grows, is_served, comes_alone, numbers_apart, held_once, value_stays}
@@ -144,7 +144,7 @@ module _ {T E : Type 0} (leads : T → E → T → Type 0) (first : T) (passes :
               queued = f.queued;
             }
             (λ j u apart at'. fits_words r.history s.words words' u (r.each_view j u at') (λ k _. as_before (k + 2))) (λ _. refl) refl refl (value_stays leads first passes s r.history id v w words' at refl r.value),
-        (refl, seen_of v.noted v.seen r.history f.seen f.noted),
+        (refl, seen_of v.noted v.seen r.history f.seen f.noted, f.own_seen),
       )
 
   pub announces : (slots id : ℕ) (me : Me (Slot T E) (View T E)) (k : ℕ) (own : List E) (ss : List (Share E)) (slot : Slot T E) (chosen : Chosen E)
@@ -193,7 +193,7 @@ module _ {T E : Type 0} (leads : T → E → T → Type 0) (first : T) (passes :
       let f = r.each_view id v at in let wide = r.wide in let deep' = r.deep in let share : Share E = record { number = k; own = own } in let come = f.come here in
       let w : View T E = publishing v e in
       let long : length h' ≡ length h + 1 = length-append h (entered k e ∷ []) in
-      let seen : w.seen ≡ h' = λ i. come.1 i ++ entered (ap (Rattle.history_lock.specs.Told.number_of) shares i) e ∷ [] in
+      let seen : w.seen ≡ h' = λ i. come.1 i ++ entered (ap (Rattle.history_lock.specs.History.number_of) shares i) e ∷ [] in
       let grew : w.shares ≡ (record { number = k; own = own ++ e ∷ [] }) ∷ ss = ap (grown e) shares in
       let counted : AreCounted passes s.words 1 (share ∷ ss) = subst (AreCounted passes s.words 1) shares (subst (λ (a : List E). AreCounted passes s.words (length a) v.shares) loud f.counted) in
       let owns : AreOwn h (share ∷ ss) = subst (AreOwn h) shares f.own in
@@ -203,6 +203,7 @@ module _ {T E : Type 0} (leads : T → E → T → Type 0) (first : T) (passes :
       (ap (λ (l : List E). l ++ e ∷ []) owns.0 ∙ sym (by_here k h e), own_moves h h' ss (λ j l. by_else j k h e (λ i. let z : held k ss ≡ held j ss = ap (λ (q : ℕ). held q ss) i in omega arith)) owns.1) in
       let serving = r.serving in let longer_own : length (own ++ e ∷ []) ≡ length own + 1 = length-append own (e ∷ []) in
       let s' : State (Slot T E) (View T E) = record { words = words'; homes = homes'; views = set s.views id w } in
+      let own_seen : AreOwn w.seen w.shares = subst (λ (y : List (Entered E) × List (Share E)). AreOwn y.0 y.1) (λ i. (sym seen i, sym grew i)) owns' in
       let kept : Kept leads first passes s' = record {
         history = h';
         drawn = r.drawn;
@@ -219,7 +220,7 @@ module _ {T E : Type 0} (leads : T → E → T → Type 0) (first : T) (passes :
               come = λ c. absurd (cc c);
               announced = λ _. refl;
               own = subst (AreOwn h') (sym grew) owns';
-              own_seen = subst (λ (y : List (Entered E) × List (Share E)). AreOwn y.0 y.1) (λ i. (sym seen i, sym grew i)) owns';
+              own_seen = own_seen;
               counted = subst (AreCounted passes words' 0) (sym grew)
                   (counted.0, apart k ∙ (counted.1 ∙ ap (λ (q : ℕ). q % 18446744073709551616) (omega arith)), counted_moves passes s.words words' 0 ss (λ j _. apart j) counted.2);
               queued = omega arith;
@@ -239,5 +240,5 @@ module _ {T E : Type 0} (leads : T → E → T → Type 0) (first : T) (passes :
         gives,
         tt,
         subst (λ (cs : List (ℕ × Slot T E)). Kept leads first passes (stepped s 1 x id cs w gives)) (sym carried) kept,
-        λ e' loud'. let alike : e ≡ e' = cc (loud, loud') in (λ i. (publishing v (alike i), Rattle.atomic_table.specs.Table.rest (carried i))),
+        λ e' loud'. let alike : e ≡ e' = cc (loud, loud') in ((λ i. (publishing v (alike i), Rattle.atomic_table.specs.Table.rest (carried i))), own_seen),
       )

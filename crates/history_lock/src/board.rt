@@ -16,7 +16,7 @@ pub struct Entered<E> {
     pub entry: E,
 }
 
-/// A number that a pass stands for, and the entries of the turns that were taken under it.
+/// A number that a pass holds, and the entries of the turns that were taken under it.
 pub struct Share<E> {
     pub number: u64,
     pub own: LinkedList<E, Global>,
@@ -121,4 +121,4 @@ pub type Board<T> = Table<
     Global,
 >;
 
-pub type Place<T> = Seat<Slot<T, <T as Turned>::Entry>, View<T, <T as Turned>::Entry>>;
+pub type PassSeat<T> = Seat<Slot<T, <T as Turned>::Entry>, View<T, <T as Turned>::Entry>>;

@@ -1,9 +1,9 @@
 //! The steps of a turn, over seats.
 ghost use Rattle.std.specs.Prelude.{◌≡◌, ℕ, ◌+◌, ◌%◌, ◌^◌, ◌<◌, false, [], ◌∷◌, length, Some};
-ghost use Rattle.history_lock.specs.History.{Leads};
-ghost use Rattle.history_lock.specs.Told.{number_of, own_of, other_shares, IsResting, waiting, Arrives, IsServing, Serves};
+ghost use Rattle.history_lock.specs.History.{FirstIs, Leads};
+ghost use Rattle.history_lock.specs.Told.{IsResting, waiting, Arrives, IsServing, Serves};
 
-use crate::board::{Place, Slot};
+use crate::board::{PassSeat, Slot};
 use crate::chosen::{Chosen, Taken};
 use crate::lock::Shared;
 use crate::plays::{Announce, Draw, Look, Publish};
@@ -12,7 +12,7 @@ use crossbeam_utils::Backoff;
 use std::snapshot::Snapshot;
 use std::sync::Wait;
 
-pub(crate) fn draw<T: Turned>(lock: &Shared<T>, seat: &mut Place<T>) -> u64
+pub(crate) fn draw<T: Turned>(lock: &Shared<T>, seat: &mut PassSeat<T>) -> u64
     requires table { seat.old.table_id ≡ lock.now.table.shared.table_id }
     requires rests { IsResting seat.old.me.0 × (0 < length seat.old.me.0.shares) × (seat.old.me.1 ≡ []) }
     ensures table { (seat.new.table_id ≡ seat.old.table_id) × (seat.new.id ≡ seat.old.id) }
@@ -33,12 +33,13 @@ fn back_off<T: Turned, R: Wait>(rt: &R, lock: &Shared<T>, backoff: &Backoff, ser
 pub(crate) fn wait_turn<T: Turned, R: Wait>(
     rt: &R,
     lock: &Shared<T>,
-    seat: &mut Place<T>,
+    seat: &mut PassSeat<T>,
     ticket: u64,
 )
     requires table { seat.old.table_id ≡ lock.now.table.shared.table_id }
     requires first { seat.old.me.0.first ≡ Some lock.now.table.shared.key.first.value }
-    requires waits { (t : ℕ) × (ticket ≡ t % 2 ^ 64) × (seat.old.me.0.tickets ≡ t ∷ []) × (seat.old.me.0.come ≡ false) × (seat.old.me.1 ≡ []) }
+    requires waits { (t : ℕ) × (ticket ≡ t % 2 ^ 64) × (seat.old.me.0.tickets ≡ t ∷ [])
+        × (seat.old.me.0.come ≡ false) × (seat.old.me.1 ≡ []) }
     ensures table { (seat.new.table_id ≡ seat.old.table_id) × (seat.new.id ≡ seat.old.id) }
     ensures come { Arrives (Leads T.step) lock.now.table.shared.key.first.value seat.old.me seat.new.me }
 {
@@ -62,12 +63,14 @@ fn wake<T: Turned>(lock: &Shared<T>, served: u64) {
 
 pub(crate) fn take_turn<T: Turned>(
     lock: &Shared<T>,
-    seat: &mut Place<T>,
+    seat: &mut PassSeat<T>,
     number: usize,
     call: T::Call,
 ) -> T::Reply
-    requires table { (seat.old.table_id ≡ lock.now.table.shared.table_id) × (number < 64) × (number + 2 < seat.old.table_id.words) }
-    requires number { seat.old.me.0.shares ≡ (record { number = number; own = own_of seat.old.me.0.shares }) ∷ other_shares seat.old.me.0.shares }
+    requires table { seat.old.table_id ≡ lock.now.table.shared.table_id }
+    requires few { number < 64 }
+    requires inside { number + 2 < seat.old.table_id.words }
+    requires number { FirstIs number seat.old.me.0.shares }
     requires serving { IsServing (Leads T.step) lock.now.table.shared.key.first.value seat.old.me }
     requires call { T.may_take call }
     ensures table { (seat.new.table_id ≡ seat.old.table_id) × (seat.new.id ≡ seat.old.id) }

@@ -4,7 +4,7 @@ use Rattle.history_lock.proofs.Moves.{looks}
 use Rattle.history_lock.proofs.seats.wait_turn.Goals as goal
 
 pub load-serving-requires : goal.load-serving-requires
-load-serving-requires g c = let words = c.args.lock.now.sized.0 in let w = c.requires.waits in let same = c.loop.invariant.2 in (
+load-serving-requires g c = let words = c.args.lock.now.sized in let w = c.requires.waits in let same = c.loop.invariant.2 in (
   c.loop.invariant.0 ∙ c.requires.table,
   omega arith,
   looks (Leads g.T.Turned.step) c.args.lock.now.table.shared.key.first.value c.args.lock.now.table.shared.key.passes _ _ c.loop.seat.me w.0

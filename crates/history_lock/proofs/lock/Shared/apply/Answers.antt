@@ -1,9 +1,10 @@
 use Rattle.std.proofs.Common.{◌≡◌, List, [], ◌∷◌, ◌++◌, refl, ap, sym, subst, ◌∙◌}
 use Rattle.history_lock.specs.declared.board.Entered.{Entered}
-use Rattle.history_lock.specs.History.{entered, entries, Leads, Runs}
-use Rattle.history_lock.specs.Told.{number_of, waiting, arrived, publishing}
+use Rattle.history_lock.specs.History.{entered, entries, Leads, Runs, number_of}
+use Rattle.history_lock.specs.Told.{waiting, arrived, publishing}
 use Rattle.history_lock.specs.Passes.{first_of}
 use Rattle.history_lock.proofs.Turning.{runs_on}
+use Rattle.history_lock.proofs.Histories.{own_held}
 use Rattle.history_lock.proofs.lock.Shared.apply.Goals as goal
 
 pub returns-clause-turn : goal.returns-clause-turn
@@ -33,3 +34,6 @@ returns-clause-turn g c =
           (runs_on g.T.Turned.step (first_of c.args.self.now) (v.seen ++ between) (v.seen ++ between) (number_of v.shares) served.0 c.args.call e c.take_turn.result served.2 led served.4 refl);
       has_own = ap (λ x. x.shares) now;
     }
+
+pub invariant_of-pass-clause-holds_own : goal.invariant_of-pass-clause-holds_own
+invariant_of-pass-clause-holds_own g c = own_held c.take_turn.new.seat.me.0.seen c.take_turn.new.seat.me.0.shares c.take_turn.ensures.turn.6

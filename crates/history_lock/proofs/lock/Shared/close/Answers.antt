@@ -23,9 +23,12 @@ returns-clause-own g c =
     let end = closes (Leads g.T.Turned.step) c.args.self.table.shared.key.first.value c.args.self.table.shared.key.passes _ c.args.pass.seat.me.0 _ _ c.args.pass.rests c.requires.all c.close_with-closed.ensures.values.2 in
     subst (λ m. AreOwn m.me.0.seen m.me.0.shares) (sym c.of-last.ensures) end.5
 
-pub returns-clause-taken : goal.returns-clause-taken
-returns-clause-taken g c =
-    let end = closes (Leads g.T.Turned.step) c.args.self.table.shared.key.first.value c.args.self.table.shared.key.passes _ c.args.pass.seat.me.0 _ _ c.args.pass.rests c.requires.all c.close_with-closed.ensures.values.2 in (
-      subst (λ m. AreBelow c.args.self.table.shared.key.passes m.me.0.seen) (sym c.of-last.ensures) end.6,
-      λ k l. subst (λ m. held k m.me.0.shares ≡ 1) (sym c.of-last.ensures) (end.7 k ∙ below_one k c.args.self.table.shared.key.passes l),
-    )
+pub returns-clause-numbers : goal.returns-clause-numbers
+returns-clause-numbers g c =
+    let end = closes (Leads g.T.Turned.step) c.args.self.table.shared.key.first.value c.args.self.table.shared.key.passes _ c.args.pass.seat.me.0 _ _ c.args.pass.rests c.requires.all c.close_with-closed.ensures.values.2 in
+    subst (λ m. AreBelow c.args.self.table.shared.key.passes m.me.0.seen) (sym c.of-last.ensures) end.6
+
+pub returns-clause-once : goal.returns-clause-once
+returns-clause-once g c =
+    let end = closes (Leads g.T.Turned.step) c.args.self.table.shared.key.first.value c.args.self.table.shared.key.passes _ c.args.pass.seat.me.0 _ _ c.args.pass.rests c.requires.all c.close_with-closed.ensures.values.2 in
+    λ k l. subst (λ m. held k m.me.0.shares ≡ 1) (sym c.of-last.ensures) (end.7 k ∙ below_one k c.args.self.table.shared.key.passes l)
