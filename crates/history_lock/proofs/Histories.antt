@@ -1,5 +1,5 @@
 -- Histories that grow, and the shares of those who made them.
-use Rattle.std.proofs.Common.{◌≡◌, ◌≢◌, ℕ, zero, suc, ◌+◌, ◌<◌, ◌≤◌, if◌then◌else◌, List, [], ◌∷◌, ◌++◌, length, get_or, refl, ap, sym, subst, ◌∙◌, arith, length-append, eq-eqb, ne_eqb}
+use Rattle.std.proofs.Common.{◌≡◌, ◌≢◌, ℕ, zero, suc, ◌+◌, ◌*◌, ◌<◌, ◌≤◌, if◌then◌else◌, List, [], ◌∷◌, ◌++◌, length, get_or, refl, ap, sym, subst, ◌∙◌, arith, length-append, eq-eqb, ne_eqb}
 use Rattle.std.proofs.lemmas.List.{append-nil}
 use mathlib.Core.Logic.{dite}
 use mathlib.Core.List.{IsPrefix}
@@ -63,7 +63,7 @@ module _ {E : Type 0} where
   own_agree h h' (s ∷ ss) k l a b = dite (ℕ_discrete k s.number) (λ e. ap (λ j. entries_by j h) e ∙ (sym a.0 ∙ (b.0 ∙ ap (λ j. entries_by j h') (sym e))))
       (λ e. let z = same_else k s.number e in own_agree h h' ss k (omega arith) a.1 b.1)
 
-  pub counted_moves : (n : ℕ) (words words' : List ℕ) (a : ℕ) (ss : List (Share E)) → ((k : ℕ) → 0 < held k ss → get_or words' (k + 2) 0 ≡ get_or words (k + 2) 0) → AreCounted n words a ss → AreCounted n words' a ss
+  pub counted_moves : (n : ℕ) (words words' : List ℕ) (a : ℕ) (ss : List (Share E)) → ((k : ℕ) → 0 < held k ss → get_or words' ((k + 2) * 16) 0 ≡ get_or words ((k + 2) * 16) 0) → AreCounted n words a ss → AreCounted n words' a ss
   counted_moves n words words' a [] agree c = tt
   counted_moves n words words' a (s ∷ ss) agree c = let here = same_here s.number s.number refl in
       (c.0, agree s.number (omega arith) ∙ c.1, counted_moves n words words' 0 ss (λ k l. agree k (omega arith)) c.2)

@@ -1,5 +1,5 @@
 -- The rule of the table.
-use Rattle.std.specs.Prelude.{◌≡◌, ◌⊎◌, ℕ, zero, suc, ◌+◌, ◌%◌, ◌^◌, ◌<◌, ◌≤◌, true, false, ltb, cond, List, [], ◌∷◌, length, slice_index, Some}
+use Rattle.std.specs.Prelude.{◌≡◌, ◌⊎◌, ℕ, zero, suc, ◌+◌, ◌*◌, ◌%◌, ◌^◌, ◌<◌, ◌≤◌, true, false, ltb, cond, List, [], ◌∷◌, length, slice_index, Some}
 use mathlib.Core.Option.{some}
 use mathlib.Core.List.{IsPrefix}
 use lib.ListN.{get_elem?}
@@ -34,11 +34,29 @@ abbrev pub AreBegun : {A : Type 0} → List (List A) → List A → Type 0
 AreBegun [] history = Unit {0}
 AreBegun (x ∷ xs) history = IsPrefix x history × AreBegun xs history
 
+-- The word that counts the tickets that were drawn. Words that different threads write are 16 words apart, so that
+-- they share no cache line.
+abbrev pub ticket_word : ℕ
+ticket_word = 0
+
+-- the word that counts the turns that were taken
+abbrev pub serving_word : ℕ
+serving_word = 16
+
+-- the word of a pass's number, which counts the turns that were taken under it
+abbrev pub number_word : ℕ → ℕ
+number_word k = (k + 2) * 16
+
+-- how many words a table with so many passes has
+abbrev pub word_count : ℕ → ℕ
+word_count passes = (passes + 2) * 16
+
 -- each share's number is below n, and its word counts its entries, the first one's with what is announced
 abbrev pub AreCounted : {E : Type 0} → ℕ → List ℕ → ℕ → List (Share E) → Type 0
 AreCounted n words announced [] = Unit {0}
 AreCounted n words announced (s ∷ ss) =
-    (s.number < n) × (slice_index words (s.number + 2) ≡ (length s.own + announced) % 2 ^ 64) × AreCounted n words 0 ss
+    (s.number < n) × (slice_index words (number_word s.number) ≡ (length s.own + announced) % 2 ^ 64)
+    × AreCounted n words 0 ss
 
 -- what a view knows is true of the history and the words
 pub record Fits {T E : Type 0} (first : T) (passes : ℕ)
@@ -58,7 +76,7 @@ module _ {T E : Type 0} where
   abbrev pub IsHome : (T → E → T → Type 0) → T → List (Entered E) → State (Slot T E) (View T E) → Type 0
   IsHome leads first history s =
       (slot : Slot T E) × (value : T) × (get_elem? s.homes 0 ≡ some (some slot))
-      × (slot.value ≡ Some value) × Runs leads first (entries history) value
+      × (slot.value ≡ value) × Runs leads first (entries history) value
 
   -- the value is out with a seat whose turn has come
   abbrev pub IsOut : State (Slot T E) (View T E) → Type 0
@@ -74,10 +92,10 @@ pub record Kept {T E : Type 0} (leads : T → E → T → Type 0) (first : T) (p
   pub history : List (Entered E)
   pub drawn : ℕ
   pub few : passes ≤ 64
-  pub wide : length s.words ≡ passes + 2
+  pub wide : length s.words ≡ word_count passes
   pub deep : length s.homes ≡ 1
-  pub ticket : slice_index s.words 0 ≡ drawn % 2 ^ 64
-  pub serving : slice_index s.words 1 ≡ length history % 2 ^ 64
+  pub ticket : slice_index s.words ticket_word ≡ drawn % 2 ^ 64
+  pub serving : slice_index s.words serving_word ≡ length history % 2 ^ 64
   pub each_view : (id : ℕ) (v : View T E) → get_elem? s.views id ≡ some v → Fits first passes history s.words v
   pub tickets : (n : ℕ) → total (λ v. times n v.tickets) s.views + below n (length history) ≡ below n drawn
   pub queue : total (λ v. length v.tickets) s.views + length history ≡ drawn

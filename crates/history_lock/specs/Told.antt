@@ -166,7 +166,7 @@ module _ {T E : Type 0} where
   Arrives leads first m m' =
       (history : List (Entered E)) × (slot : Slot T E) × (value : T)
       × IsPrefix m.0.seen history × (m' ≡ (arrived m.0 history, (0, slot) ∷ []))
-      × (slot.value ≡ Some value) × Runs leads first (entries history) value
+      × (slot.value ≡ value) × Runs leads first (entries history) value
 
   -- the turn of the ticket has come if it is the number found
   abbrev pub looked : (T → E → T → Type 0) → TableStep T E → SeatState T E → ℕ → SeatState T E → Type 0
@@ -192,11 +192,20 @@ module _ {T E : Type 0} where
   -- the value in hand is what the history leaves, as the turn has come
   abbrev pub IsServing : (T → E → T → Type 0) → T → SeatState T E → Type 0
   IsServing leads first m =
-      (slot : Slot T E) × (value : T) × (m.1 ≡ (0, slot) ∷ []) × (slot.value ≡ Some value)
+      (slot : Slot T E) × (value : T) × (m.1 ≡ (0, slot) ∷ []) × (slot.value ≡ value)
       × Runs leads first (entries m.0.seen) value × (m.0.come ≡ true) × (m.0.announced ≡ [])
 
+  -- a turn was taken on what the history leaves, and the slot in hand has the value after it and its entry
+  abbrev pub HasServed : {C R : Type 0}
+      → (T → C → E → R → T → Type 0) → T → SeatState T E → C → R → SeatState T E → Type 0
+  HasServed step first m call reply m' =
+      (old : T) × (slot : Slot T E) × (chosen : Chosen E)
+      × Runs (Leads step) first (entries m.0.seen) old × step old call chosen.entry reply slot.value
+      × (slot.entry ≡ Some chosen) × (m' ≡ (m.0, (0, slot) ∷ []))
+
   -- a turn was taken on what the history leaves, and has joined the history
-  abbrev pub Serves : {C R : Type 0} → (T → C → E → R → T → Type 0) → T → SeatState T E → C → R → SeatState T E → Type 0
+  abbrev pub Serves : {C R : Type 0}
+      → (T → C → E → R → T → Type 0) → T → SeatState T E → C → R → SeatState T E → Type 0
   Serves step first m call reply m' =
       (old : T) × (entry : E) × (new : T)
       × Runs (Leads step) first (entries m.0.seen) old × step old call entry reply new

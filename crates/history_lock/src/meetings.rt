@@ -10,6 +10,7 @@ use crate::board::PassSeat;
 use crate::lock::Shared;
 use crate::pass::{Pass, Record};
 use crate::plays::{Meet, Note, Settle};
+use crate::seats::SERVING;
 use crate::turned::Turned;
 use std::snapshot::Snapshot;
 
@@ -26,7 +27,7 @@ fn absorb<T: Turned>(lock: &Shared<T>, into: &mut PassSeat<T>, from: PassSeat<T>
     ensures from_seen { IsPrefix from.me.0.seen into.new.me.0.seen }
 {
     lock.table.shared.join_seat::<Meet>(into, from);
-    lock.table.shared.load::<Settle>(into, 1);
+    lock.table.shared.load::<Settle>(into, SERVING);
 }
 
 // Tells the second seat what the first has seen.
@@ -97,7 +98,8 @@ impl<T: Turned> Shared<T> {
         ensures own { AreOwn (past result.1) (past_shares result.1) }
         ensures once { (k : ℕ) → k < passes_of self → held k (past_shares result.1) ≡ 1 }
     {
-        let Shared { table } = self;
+        let Shared { table, places } = self;
+        drop(places);
         let Pass { seat, number: _ } = pass;
         let last = Snapshot::of(&seat);
         let mut closed = table.close_with(seat);

@@ -6,14 +6,13 @@ ghost use Rattle.history_lock.specs.Passes.{id_of, first_of, passes_of, lock_of_
 use crate::board::{Origin, PassSeat, Slot};
 use crate::lock::Shared;
 use crate::pass::{Pass, Passes};
+use crate::places::Places;
 use crate::plays::Deal;
+use crate::seats::STRIDE;
 use crate::turned::Turned;
 use atomic_table::{Refused, Table};
 use std::alloc::{AllocError, Global};
 use std::snapshot::Snapshot;
-
-// The most passes, and the words beside theirs.
-const MOST_WORDS: usize = 64 + 2;
 
 // The table over the value, and its first seat.
 fn lay<T: Turned>(
@@ -28,6 +27,12 @@ fn lay<T: Turned>(
     ensures view { IfOk result (λ r. r.1.me ≡ (opening_view value passes, [])) }
     ensures refused { IfErr result (λ r. r.0 ≡ value) }
 {
+    let Ok(places) = Places::new(alloc) else {
+        return Err((value, AllocError));
+    };
+    let Ok(words) = vec![in alloc; 0u64; (passes + 2) * STRIDE] else {
+        return Err((value, AllocError));
+    };
     let origin = Origin {
         first: Snapshot::of(&value),
         passes: passes as u64,
@@ -38,9 +43,8 @@ fn lay<T: Turned>(
         slots.destroy_empty();
         return Err((failed.value.into_value(), AllocError));
     }
-    let words = [0u64; MOST_WORDS];
-    match Table::new(alloc, &words[..passes + 2], slots, &origin) {
-        Ok((table, seat)) => Ok((Shared { table }, seat)),
+    match Table::new(alloc, words.as_slice(), slots, &origin) {
+        Ok((table, seat)) => Ok((Shared { table, places }, seat)),
         Err(Refused { mut slots }) => {
             let Some(slot) = slots.pop() else {
                 unreachable!()

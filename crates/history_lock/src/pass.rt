@@ -1,6 +1,7 @@
 //! The passes of a lock, and what is left of them at its end.
 ghost use Rattle.std.specs.Prelude.{◌≡◌, ℕ, ◌+◌, ◌<◌, ◌≤◌, [], ◌∷◌, vec_len, slice_get, Some};
 ghost use Rattle.history_lock.specs.History.{FirstIs, HoldsOwn, share_of};
+ghost use Rattle.history_lock.specs.Rule.{number_word};
 ghost use Rattle.history_lock.specs.Told.{IsResting};
 
 use crate::board::PassSeat;
@@ -18,7 +19,7 @@ pub struct Pass<T: Turned> {
     ghost bare: { seat.me.1 ≡ [] },
     ghost rests: { IsResting seat.me.0 },
     ghost few: { number < 64 },
-    ghost inside: { number + 2 < seat.table_id.words },
+    ghost inside: { number_word number < seat.table_id.words },
 }
 
 /// The passes of a lock that nobody has taken yet. The last in the list has the lowest number.

@@ -9,6 +9,8 @@ ghost use Rattle.history_lock.specs.Laws.{NoneHeld};
 ghost use Rattle.history_lock.specs.Passes.{id_of, first_of, passes_of, lock_of, seen, shares, IsFresh, lock_of_all, all_of, left_of, taken_of, past};
 ghost use Rattle.history_lock.specs.Rule.{below};
 
+mod sleep;
+
 use crate::{Counter, Pass, Passes, Record, Shared, own_turns_are_never_news};
 use std::alloc::Global;
 use std::sync::Wait;

@@ -21,6 +21,8 @@ impl<T: Turned> Shared<T> {
         let number = pass.number;
         let ticket = draw(self, &mut pass.seat);
         wait_turn(rt, self, &mut pass.seat, ticket);
-        take_turn(self, &mut pass.seat, number, call)
+        let answer = take_turn(self, &mut pass.seat, number, call);
+        self.places.wake(ticket.wrapping_add(1));
+        answer
     }
 }
