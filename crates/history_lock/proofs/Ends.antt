@@ -1,5 +1,5 @@
--- How a lock begins, how a seat is split and two are joined, and how a lock ends.
-use Rattle.std.proofs.Common.{◌≡◌, ◌≢◌, ℕ, zero, suc, ◌+◌, ◌<◌, ◌≤◌, Bool, true, false, ltb, if◌then◌else◌, List, [], ◌∷◌, ◌++◌, length, get_or, set, refl, ap, sym, subst, ◌∙◌, arith, inl, inr, ⊎_elim, Some, length-append, eq-eqb}
+-- How a lock is opened, how a seat is split and two are joined, and how a lock is closed.
+use Rattle.std.proofs.Common.{◌≡◌, ◌≢◌, ℕ, zero, suc, ◌+◌, ◌*◌, ◌<◌, ◌≤◌, Bool, true, false, ltb, if◌then◌else◌, List, [], ◌∷◌, ◌++◌, length, get_or, set, refl, ap, sym, subst, ◌∙◌, arith, inl, inr, ⊎_elim, length-append, eq-eqb}
 use Rattle.std.proofs.lemmas.Bool.Decides.{nat_tests}
 use Rattle.std.proofs.lemmas.List.{append-nil}
 use mathlib.Core.Logic.{dite}
@@ -13,9 +13,9 @@ use Rattle.history_lock.specs.declared.board.Entered.{Entered}
 use Rattle.history_lock.specs.declared.board.Share.{Share}
 use Rattle.history_lock.specs.declared.board.Slot.{Slot}
 use Rattle.history_lock.specs.declared.board.View.{View}
-use Rattle.history_lock.specs.History.{entries, entries_by, held, StandsForAll, AreOwn, AreBelow, Runs}
+use Rattle.history_lock.specs.History.{entries, entries_by, held, HoldsAll, AreOwn, AreBelow, Runs, other_shares}
 use Rattle.history_lock.specs.Rule.{below, times, fresh, AreCounted, Fits, Kept, opening_view}
-use Rattle.history_lock.specs.Told.{IsResting, longer, first_share, other_shares, note_of, one_of, rest_of, both_of, spent}
+use Rattle.history_lock.specs.Told.{IsResting, longer, first_share, note_of, one_of, rest_of, both_of, spent}
 use Rattle.history_lock.proofs.Lists.{total_set, total_snoc, total_two, total_alone, prefix_self, prefix_shorter, same_here, same_else, below_next, below_one, below_not}
 use Rattle.history_lock.proofs.Histories.{by-append, by_between, below_rest, own_moves, own-append, own_agree, counted-append, held-append, as_many}
 use Rattle.history_lock.proofs.Views.{each_set, value_stays}
@@ -32,9 +32,9 @@ fresh_own : (E : Type 0) (n : ℕ) → AreOwn {E = E} [] (fresh n)
 fresh_own E zero = tt
 fresh_own E (suc n) = (refl, fresh_own E n)
 
-fresh_counted : (E : Type 0) (passes : ℕ) (words : List ℕ) (n : ℕ) → n ≤ passes → ((i : ℕ) → i < passes + 2 → get_or words i 0 ≡ 0) → AreCounted {E = E} passes words 0 (fresh n)
+fresh_counted : (E : Type 0) (passes : ℕ) (words : List ℕ) (n : ℕ) → n ≤ passes → ((i : ℕ) → i < (passes + 2) * 16 → get_or words i 0 ≡ 0) → AreCounted {E = E} passes words 0 (fresh n)
 fresh_counted E passes words zero le blank = tt
-fresh_counted E passes words (suc n) le blank = (omega arith, blank (n + 2) (omega arith), fresh_counted E passes words n (omega arith) blank)
+fresh_counted E passes words (suc n) le blank = (omega arith, blank ((n + 2) * 16) (omega arith), fresh_counted E passes words n (omega arith) blank)
 
 held_short : {E : Type 0} (k : ℕ) (ss : List (Share E)) → held k ss ≤ length ss
 held_short k [] = omega arith
@@ -45,7 +45,7 @@ each_one P v p zero u e = subst P (some-injective v u e) p
 each_one P v p (suc j) u e = absurd (some-ne-none u (sym e))
 
 module _ {T E : Type 0} (leads : T → E → T → Type 0) (first : T) (passes : ℕ) where
-  pub starts : (words : List ℕ) (slot : Slot T E) → passes ≤ 64 → length words ≡ passes + 2 → ((i : ℕ) → i < passes + 2 → get_or words i 0 ≡ 0) → slot.value ≡ Some first
+  pub starts : (words : List ℕ) (slot : Slot T E) → passes ≤ 64 → length words ≡ (passes + 2) * 16 → ((i : ℕ) → i < (passes + 2) * 16 → get_or words i 0 ≡ 0) → slot.value ≡ first
       → Kept leads first passes (opening words (slot ∷ []) (opening_view first passes))
   starts words slot few wide blank there = record {
     history = [];
@@ -54,7 +54,7 @@ module _ {T E : Type 0} (leads : T → E → T → Type 0) (first : T) (passes :
     wide = wide;
     deep = refl;
     ticket = blank 0 (omega arith);
-    serving = blank 1 (omega arith);
+    serving = blank 16 (omega arith);
     each_view = let v : View T E = opening_view first passes in each_one (Fits first passes [] words) v record {
       first_is = λ x e. cc (e);
       seen = ([], refl);
@@ -94,7 +94,7 @@ module _ {T E : Type 0} (leads : T → E → T → Type 0) (first : T) (passes :
     numbers = λ k. let t = total_set (λ (u : View T E). held k u.shares) s.views id v left at in let more = total_snoc (λ (u : View T E). held k u.shares) vs right in let g = shared k in let q = r.numbers k in omega arith;
     whole = let t = total_set (λ (u : View T E). length u.shares) s.views id v left at in let more = total_snoc (λ (u : View T E). length u.shares) vs right in let q = r.whole in omega arith;
     taken = r.taken;
-    value = ⊎_elim (λ (x : (slot : Slot T E) × (value : T) × (get_elem? s.homes 0 ≡ some (some slot)) × (slot.value ≡ Some value) × Runs leads first (entries r.history) value). inl x)
+    value = ⊎_elim (λ (x : (slot : Slot T E) × (value : T) × (get_elem? s.homes 0 ≡ some (some slot)) × (slot.value ≡ value) × Runs leads first (entries r.history) value). inl x)
         (λ (x : (j : ℕ) × (u : View T E) × (get_elem? vs j ≡ some u) × (u.come ≡ true)). inr (x.0, x.1, at_longer vs (right ∷ []) x.0 x.1 x.2, x.3))
         (value_stays leads first passes s r.history id v left s.words at same_come r.value);
   }
@@ -219,7 +219,7 @@ module _ {T E : Type 0} (leads : T → E → T → Type 0) (first : T) (passes :
         whole = let t = total_set (λ (u : View T E). length u.shares) s.views id v b at in let t' = total_set (λ (u : View T E). length u.shares) vs other w o there in
             let z = length-append v.shares w.shares in let q = r.whole in omega arith;
         taken = r.taken;
-        value = ⊎_elim (λ (x : (slot : Slot T E) × (value : T) × (get_elem? s.homes 0 ≡ some (some slot)) × (slot.value ≡ Some value) × Runs leads first (entries h) value). inl x)
+        value = ⊎_elim (λ (x : (slot : Slot T E) × (value : T) × (get_elem? s.homes 0 ≡ some (some slot)) × (slot.value ≡ value) × Runs leads first (entries h) value). inl x)
             (λ (x : (j : ℕ) × (u : View T E) × (get_elem? s.views j ≡ some u) × (u.come ≡ true)).
             let off : x.0 ≢ id = λ e. let alike : v ≡ x.1 = some-injective v x.1 (sym at ∙ (ap (λ j. get_elem? s.views j) (sym e) ∙ x.2)) in let c : v.come ≡ true = ap (λ y. y.come) alike ∙ x.3 in cc (c, rest.1) in
             let off' : x.0 ≢ other = λ e. let alike : w ≡ x.1 = some-injective w x.1 (sym there' ∙ (ap (λ j. get_elem? s.views j) (sym e) ∙ x.2)) in let c : w.come ≡ true = ap (λ y. y.come) alike ∙ x.3 in cc (c, rest'.1) in
@@ -233,8 +233,8 @@ module _ {T E : Type 0} (leads : T → E → T → Type 0) (first : T) (passes :
           subst (λ (z : Bool). IsPrefix (if z then ys else xs) h × IsPrefix xs (if z then ys else xs) × IsPrefix ys (if z then ys else xs)) (sym e) (q, prefix_shorter xs ys h p q (omega arith), prefix_self ys))
 
   -- at the end a view with all numbers has seen all, and has all of it under its numbers
-  pub closes : (id : ℕ) (v : View T E) (words : List ℕ) (slots : List (Slot T E)) → IsResting v → StandsForAll passes v.shares → Final (Seen (Kept leads first passes) id v) words slots
-      → (slot : Slot T E) × (value : T) × (get_elem? slots 0 ≡ some slot) × (slot.value ≡ Some value) × Runs leads first (entries v.seen) value
+  pub closes : (id : ℕ) (v : View T E) (words : List ℕ) (slots : List (Slot T E)) → IsResting v → HoldsAll passes v.shares → Final (Seen (Kept leads first passes) id v) words slots
+      → (slot : Slot T E) × (value : T) × (get_elem? slots 0 ≡ some slot) × (slot.value ≡ value) × Runs leads first (entries v.seen) value
       × AreOwn v.seen v.shares × AreBelow passes v.seen × ((k : ℕ) → held k v.shares ≡ below k passes)
   closes id v words slots rest all final = let s : State (Slot T E) (View T E) = final.0 in let r : Kept leads first passes s = final.1.0 in let at = final.1.1 in let f = r.each_view id v at in
       let h : List (Entered E) = r.history in let many = as_many passes v.shares all in
@@ -242,8 +242,8 @@ module _ {T E : Type 0} (leads : T → E → T → Type 0) (first : T) (passes :
       λ j u n at'. let two = total_two (λ (x : View T E). length x.shares) s.views j id u v n at' at in let w = r.whole in omega arith in
       let held_all : (k : ℕ) → held k v.shares ≡ below k passes =
       λ k. sym (total_alone (λ (x : View T E). held k x.shares) s.views id v at (λ j u n at'. let z = others j u n at' in let y = held_short k u.shares in omega arith)) ∙ r.numbers k in
-      let home : (slot : Slot T E) × (value : T) × (get_elem? s.homes 0 ≡ some (some slot)) × (slot.value ≡ Some value) × Runs leads first (entries h) value =
-      ⊎_elim (λ (x : (slot : Slot T E) × (value : T) × (get_elem? s.homes 0 ≡ some (some slot)) × (slot.value ≡ Some value) × Runs leads first (entries h) value). x)
+      let home : (slot : Slot T E) × (value : T) × (get_elem? s.homes 0 ≡ some (some slot)) × (slot.value ≡ value) × Runs leads first (entries h) value =
+      ⊎_elim (λ (x : (slot : Slot T E) × (value : T) × (get_elem? s.homes 0 ≡ some (some slot)) × (slot.value ≡ value) × Runs leads first (entries h) value). x)
       (λ (out : (j : ℕ) × (u : View T E) × (get_elem? s.views j ≡ some u) × (u.come ≡ true)). dite (ℕ_discrete out.0 id)
       (λ e. let alike : v ≡ out.1 = some-injective v out.1 (sym at ∙ (ap (λ j. get_elem? s.views j) (sym e) ∙ out.2)) in let c : v.come ≡ true = ap (λ x. x.come) alike ∙ out.3 in absurd (cc (c, rest.1)))
       (λ n. let z = others out.0 out.1 n out.2 in let fu = r.each_view out.0 out.1 out.2 in let one : length out.1.tickets ≡ 1 = ap length (fu.come out.3).0 in let q = fu.queued in absurd (omega arith))) r.value in

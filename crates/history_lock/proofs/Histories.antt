@@ -1,14 +1,13 @@
 -- Histories that grow, and the shares of those who made them.
-use Rattle.std.proofs.Common.{◌≡◌, ◌≢◌, ℕ, zero, suc, ◌+◌, ◌<◌, ◌≤◌, if◌then◌else◌, List, [], ◌∷◌, ◌++◌, length, get_or, refl, ap, sym, subst, ◌∙◌, arith, length-append, eq-eqb, ne_eqb}
+use Rattle.std.proofs.Common.{◌≡◌, ◌≢◌, ℕ, zero, suc, ◌+◌, ◌*◌, ◌<◌, ◌≤◌, if◌then◌else◌, List, [], ◌∷◌, ◌++◌, length, get_or, refl, ap, sym, subst, ◌∙◌, arith, length-append, eq-eqb, ne_eqb}
 use Rattle.std.proofs.lemmas.List.{append-nil}
 use mathlib.Core.Logic.{dite}
 use mathlib.Core.List.{IsPrefix}
 use native.Mathlib.Decide.{ℕ_discrete}
 use Rattle.history_lock.specs.declared.board.Entered.{Entered}
 use Rattle.history_lock.specs.declared.board.Share.{Share}
-use Rattle.history_lock.specs.History.{entered, entries_by, held, StandsForAll, AreOwn, AreBelow, Runs}
+use Rattle.history_lock.specs.History.{entered, entries_by, held, HoldsAll, AreOwn, HoldsOwn, AreBelow, Runs, grown}
 use Rattle.history_lock.specs.Rule.{below, AreBegun, AreCounted}
-use Rattle.history_lock.specs.Told.{grown}
 use Rattle.history_lock.proofs.Lists.{same_here, same_else, same_turned, below_next, below_not, below_at_most, prefix_trans, prefix_whole}
 
 module _ {E : Type 0} where
@@ -45,6 +44,15 @@ module _ {E : Type 0} where
   own_moves h h' (s ∷ ss) agree own = let here = same_here s.number s.number refl in
       (own.0 ∙ sym (agree s.number (omega arith)), own_moves h h' ss (λ k l. agree k (omega arith)) own.1)
 
+  -- the shares' own lists as one equation, and back
+  pub own_held : (h : List (Entered E)) (ss : List (Share E)) → AreOwn h ss → HoldsOwn h ss
+  own_held h [] a = refl
+  own_held h (s ∷ ss) a = let e = a.0 in let r = own_held h ss a.1 in cc
+
+  pub held_own : (h : List (Entered E)) (ss : List (Share E)) → HoldsOwn h ss → AreOwn h ss
+  held_own h [] a = tt
+  held_own h (s ∷ ss) a = (cc a, held_own h ss (cc a))
+
   pub own-append : (h : List (Entered E)) (ss ts : List (Share E)) → AreOwn h ss → AreOwn h ts → AreOwn h (ss ++ ts)
   own-append h [] ts a b = b
   own-append h (s ∷ ss) ts a b = (a.0, own-append h ss ts a.1 b)
@@ -55,7 +63,7 @@ module _ {E : Type 0} where
   own_agree h h' (s ∷ ss) k l a b = dite (ℕ_discrete k s.number) (λ e. ap (λ j. entries_by j h) e ∙ (sym a.0 ∙ (b.0 ∙ ap (λ j. entries_by j h') (sym e))))
       (λ e. let z = same_else k s.number e in own_agree h h' ss k (omega arith) a.1 b.1)
 
-  pub counted_moves : (n : ℕ) (words words' : List ℕ) (a : ℕ) (ss : List (Share E)) → ((k : ℕ) → 0 < held k ss → get_or words' (k + 2) 0 ≡ get_or words (k + 2) 0) → AreCounted n words a ss → AreCounted n words' a ss
+  pub counted_moves : (n : ℕ) (words words' : List ℕ) (a : ℕ) (ss : List (Share E)) → ((k : ℕ) → 0 < held k ss → get_or words' ((k + 2) * 16) 0 ≡ get_or words ((k + 2) * 16) 0) → AreCounted n words a ss → AreCounted n words' a ss
   counted_moves n words words' a [] agree c = tt
   counted_moves n words words' a (s ∷ ss) agree c = let here = same_here s.number s.number refl in
       (c.0, agree s.number (omega arith) ∙ c.1, counted_moves n words words' 0 ss (λ k l. agree k (omega arith)) c.2)
@@ -87,8 +95,8 @@ module _ {E : Type 0} where
   held_below-few n [] = let e = held_below-none E n in omega arith
   held_below-few n (s ∷ ss) = let e = held_below-one n s ss in let b = below_at_most s.number n in let r = held_below-few n ss in omega arith
 
-  -- who stands for all numbers has as many
-  pub as_many : (n : ℕ) (ss : List (Share E)) → StandsForAll n ss → n ≤ length ss
+  -- who holds all numbers has as many
+  pub as_many : (n : ℕ) (ss : List (Share E)) → HoldsAll n ss → n ≤ length ss
   as_many n ss all = let few = held_below-few n ss in let much = each n all in omega arith
     where
       each : (m : ℕ) → ((k : ℕ) → k < m → 0 < held k ss) → m ≤ held_below m ss

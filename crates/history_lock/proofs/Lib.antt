@@ -4,6 +4,7 @@ pub mod Histories
 pub mod Lists
 pub mod Meeting
 pub mod Moves
+pub mod OwnTurns
 pub mod Sums
 pub mod Turning
 pub mod Views

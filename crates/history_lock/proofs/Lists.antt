@@ -1,4 +1,4 @@
--- Weights of lists, beginnings of lists, and numbers in lists.
+-- Weights of lists, prefixes of lists, and numbers in lists.
 use Rattle.std.proofs.Common.{◌≡◌, ◌≢◌, ◌⊎◌, ℕ, zero, suc, ◌+◌, ◌<◌, ◌≤◌, cond, List, [], ◌∷◌, ◌++◌, length, set, refl, ap, sym, ◌∙◌, arith, append_assoc, eq-eqb, ne_eqb, slice_get, Some, inl, inr, ⊎_elim}
 use Rattle.std.proofs.lemmas.Bool.Decides.{nat_tests}
 use mathlib.Core.Logic.{dite}
@@ -51,7 +51,7 @@ module _ {A : Type 0} where
   pub prefix_trans : (xs ys zs : List A) → IsPrefix xs ys → IsPrefix ys zs → IsPrefix xs zs
   prefix_trans xs ys zs p q = (p.0 ++ q.0, sym (append_assoc xs p.0 q.0) ∙ (ap (λ w. w ++ q.0) p.1 ∙ q.1))
 
-  -- of two beginnings of one list the shorter begins the longer
+  -- of two prefixes of one list the shorter is a prefix of the longer
   pub prefix_shorter : (xs ys zs : List A) → IsPrefix xs zs → IsPrefix ys zs → length xs ≤ length ys → IsPrefix xs ys
   prefix_shorter [] ys zs p q le = (ys, refl)
   prefix_shorter (x ∷ xs) [] zs p q le = absurd (omega arith)
@@ -59,7 +59,7 @@ module _ {A : Type 0} where
   prefix_shorter (x ∷ xs) (y ∷ ys) (z ∷ zs) p q le =
       let heads : x ≡ y = cc (p.1, q.1) in let tails = prefix_shorter xs ys zs (p.0, cc (p.1)) (q.0, cc (q.1)) (omega arith) in (tails.0, cc (heads, tails.1))
 
-  -- a beginning as long as the whole is the whole
+  -- a prefix as long as the whole is the whole
   pub prefix_whole : (xs ys : List A) → IsPrefix xs ys → length ys ≤ length xs → xs ≡ ys
   prefix_whole [] [] p le = refl
   prefix_whole [] (y ∷ ys) p le = absurd (omega arith)

@@ -1,4 +1,4 @@
--- The longer of two beginnings of one history.
+-- The longer of two prefixes of one history.
 use Rattle.std.proofs.Common.{◌≡◌, ◌⊎◌, ◌<◌, ◌≤◌, Bool, true, false, ltb, if◌then◌else◌, List, [], ◌∷◌, length, refl, ap, sym, subst, ◌∙◌, arith, inl, inr}
 use Rattle.std.proofs.lemmas.Bool.Decides.{nat_tests}
 use mathlib.Core.Logic.{dite}
@@ -26,6 +26,6 @@ module _ {A : Type 0} where
   pub longer_one : (xs ys : List A) → (longer xs ys ≡ xs) ⊎ (longer xs ys ≡ ys)
   longer_one xs ys = Rattle.std.proofs.Common.⊎_elim (λ (h : (longer xs ys ≡ xs) × (length ys ≤ length xs)). inl h.0) (λ (h : (longer xs ys ≡ ys) × (length xs < length ys)). inr h.0) (longer_cases xs ys)
 
-  -- the longer of a beginning and the whole is the whole
+  -- the longer of a prefix and the whole is the whole
   pub longer_whole : (xs ys : List A) → IsPrefix xs ys → longer xs ys ≡ ys
   longer_whole xs ys p = Rattle.std.proofs.Common.⊎_elim (λ (h : (longer xs ys ≡ xs) × (length ys ≤ length xs)). h.0 ∙ prefix_whole xs ys p h.1) (λ (h : (longer xs ys ≡ ys) × (length xs < length ys)). h.0) (longer_cases xs ys)

@@ -7,9 +7,8 @@ use Rattle.history_lock.specs.declared.board.Entered.{Entered}
 use Rattle.history_lock.specs.declared.board.Share.{Share}
 use Rattle.history_lock.specs.declared.counter.Counter.{Counter}
 use Rattle.history_lock.specs.Counter.{turns_of, added_of}
-use Rattle.history_lock.specs.History.{entries, entries_by, same, held, AreOwn, AreBelow, Runs}
+use Rattle.history_lock.specs.History.{entries, entries_by, same, held, AreOwn, AreBelow, Runs, grown}
 use Rattle.history_lock.specs.Rule.{total}
-use Rattle.history_lock.specs.Told.{grown}
 use Rattle.history_lock.proofs.Lists.{same_here, same_else, below_next, below_one, below_not, total_snoc}
 
 module _ {A : Type 0} where

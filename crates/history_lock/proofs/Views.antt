@@ -1,5 +1,5 @@
 -- What the rule says of a view, and what of a view stays true as the others move.
-use Rattle.std.proofs.Common.{◌≡◌, ◌≢◌, ◌⊎◌, ℕ, zero, suc, ◌+◌, ◌%◌, ◌^◌, ◌<◌, ◌≤◌, Bool, true, false, List, [], ◌∷◌, length, get_or, set, refl, ap, sym, subst, ◌∙◌, arith, inl, inr, ⊎_elim}
+use Rattle.std.proofs.Common.{◌≡◌, ◌≢◌, ◌⊎◌, ℕ, zero, suc, ◌+◌, ◌*◌, ◌%◌, ◌^◌, ◌<◌, ◌≤◌, Bool, true, false, List, [], ◌∷◌, length, get_or, set, refl, ap, sym, subst, ◌∙◌, arith, inl, inr, ⊎_elim}
 use mathlib.Core.Logic.{dite}
 use mathlib.Core.Option.{some, some-injective, some-ne-none}
 use mathlib.Core.List.{IsPrefix}
@@ -32,7 +32,7 @@ at_length (x ∷ xs) (suc i) a e = omega (arith, at_length xs i a e)
 module _ {T E : Type 0} {first : T} {passes : ℕ} where
   -- the words of the numbers that a view holds are as before
   pub fits_words : (h : List (Entered E)) (words words' : List ℕ) (v : View T E) → Fits first passes h words v
-      → ((k : ℕ) → 0 < held k v.shares → get_or words' (k + 2) 0 ≡ get_or words (k + 2) 0) → Fits first passes h words' v
+      → ((k : ℕ) → 0 < held k v.shares → get_or words' ((k + 2) * 16) 0 ≡ get_or words ((k + 2) * 16) 0) → Fits first passes h words' v
   fits_words h words words' v f agree = record {
     first_is = f.first_is;
     seen = f.seen;
@@ -47,7 +47,7 @@ module _ {T E : Type 0} {first : T} {passes : ℕ} where
 
   -- a longer history, with no more entries under the numbers that a view holds
   pub fits_grows : (h h' : List (Entered E)) (words words' : List ℕ) (v : View T E) → IsPrefix h h' → v.come ≡ false → Fits first passes h words v
-      → ((k : ℕ) → 0 < held k v.shares → (get_or words' (k + 2) 0 ≡ get_or words (k + 2) 0) × (entries_by k h' ≡ entries_by k h)) → Fits first passes h' words' v
+      → ((k : ℕ) → 0 < held k v.shares → (get_or words' ((k + 2) * 16) 0 ≡ get_or words ((k + 2) * 16) 0) × (entries_by k h' ≡ entries_by k h)) → Fits first passes h' words' v
   fits_grows h h' words words' v p waits f agree = record {
     first_is = f.first_is;
     seen = prefix_trans v.seen h h' f.seen p;

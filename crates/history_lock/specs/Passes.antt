@@ -8,8 +8,7 @@ use Rattle.history_lock.specs.declared.turned.Turned.{Ghosts}
 use Rattle.history_lock.specs.declared.pass.Pass.{Pass}
 use Rattle.history_lock.specs.declared.pass.Passes.{Passes}
 use Rattle.history_lock.specs.declared.pass.Record.{Record}
-use Rattle.history_lock.specs.History.{entered, entries, Leads, Runs}
-use Rattle.history_lock.specs.Told.{number_of, own_of, grown}
+use Rattle.history_lock.specs.History.{entered, entries, share_of, number_of, own_of, grown, Leads, Runs}
 
 -- Which lock it is, and the value that it was opened with.
 abbrev pub LockId : Type 0 → Type 0
@@ -45,7 +44,7 @@ module _ {T C R E : Type 0} {g : Ghosts T C R E} where
   abbrev pub seen : Pass T C R E g → List (Entered E)
   seen p = p.seat.me.0.seen
 
-  -- the numbers that it stands for, its own first, each with the entries of the turns that were taken under it
+  -- the numbers that it holds, its own first, each with the entries of the turns that were taken under it
   abbrev pub shares : Pass T C R E g → List (Share E)
   shares p = p.seat.me.0.shares
 
@@ -61,28 +60,33 @@ module _ {T C R E : Type 0} {g : Ghosts T C R E} where
   abbrev pub lock_of_all : Passes T C R E g → LockId T
   lock_of_all ps = (ps.source.table_id, ps.source.me.0.first)
 
-  -- how many there were, how many nobody has taken, and how many were taken
+  -- how many there were
   abbrev pub all_of : Passes T C R E g → ℕ
   all_of ps = ps.all
 
+  -- how many nobody has taken
   abbrev pub left_of : Passes T C R E g → ℕ
   left_of ps = vec_len ps.waiting
 
+  -- how many were taken
   abbrev pub taken_of : Passes T C R E g → ℕ
   taken_of ps = all_of ps - left_of ps
 
   -- a pass of this lock with this number, which has seen nothing and has no entries
   abbrev pub IsFresh : LockId T → ℕ → Pass T C R E g → Type 0
-  IsFresh id k p = (lock_of p ≡ id) × (seen p ≡ []) × (shares p ≡ (record { number = k; own = [] }) ∷ [])
+  IsFresh id k p = (lock_of p ≡ id) × (seen p ≡ []) × (shares p ≡ share_of k [] ∷ [])
 
--- Each pass has seen nothing, and has its own number alone: the last has the number 0.
+-- each pass has seen nothing and has its own number alone, of which the last is 0
 abbrev pub AreDealt : {T C R E : Type 0} {g : Ghosts T C R E} → LockId T → ℕ → List (Pass T C R E g) → Type 0
 AreDealt {T} {C} {R} {E} {g} id all ps =
     (k : ℕ) (p : Pass T C R E g) → slice_get ps k ≡ Some p
-    → (p.seat.table_id ≡ id.0) × (p.seat.me.0.first ≡ id.1) × (p.seat.me.0.seen ≡ []) × (p.seat.me.0.shares ≡ (record { number = p.number; own = [] }) ∷ []) × (p.number + (k + 1) ≡ all)
+    → (p.seat.table_id ≡ id.0) × (p.seat.me.0.first ≡ id.1) × (p.seat.me.0.seen ≡ [])
+    × (p.seat.me.0.shares ≡ share_of p.number [] ∷ []) × (p.number + (k + 1) ≡ all)
 
--- One turn of a pass: between what it had seen and its entry stand turns of others, the reply is that of the entry's step on what the history left, and its own entries are one more.
-pub record IsTurn {T C R E : Type 0} {g : Ghosts T C R E} (step : T → C → E → R → T → Type 0) (first : T) (before after : Pass T C R E g) (call : C) (reply : R) : Type 0 where
+-- One turn of a pass. Between what it had seen and its entry are turns of others, the reply is that of the entry's
+-- step on what the history left, and its own entries are one more.
+pub record IsTurn {T C R E : Type 0} {g : Ghosts T C R E} (step : T → C → E → R → T → Type 0) (first : T)
+    (before after : Pass T C R E g) (call : C) (reply : R) : Type 0 where
   pub between : List (Entered E)
   pub old : T
   pub entry : E

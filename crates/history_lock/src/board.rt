@@ -1,8 +1,10 @@
-//! The table that all passes share. Word 0 counts the tickets that were drawn, word 1 the turns that were taken, and
-//! word k + 2 the turns that the pass with the number k took. The slot holds the value.
-ghost use Rattle.std.specs.Prelude.{◌≡◌};
+//! The table that all passes share. A word counts the tickets that were drawn, a word the turns that were taken, and
+//! one word for each pass the turns that were taken under its number. They are so far apart that no two share a cache
+//! line. The slot has the value.
+ghost use Rattle.std.specs.Prelude.{◌≡◌, Some};
+ghost use Rattle.history_lock.specs.declared.chosen.Chosen.{Chosen};
 
-use crate::chosen::Chosen;
+use crate::chosen::{Chosen, Taken};
 use crate::turned::Turned;
 use atomic_table::{Seat, Table, TableRule};
 use std::alloc::Global;
@@ -16,7 +18,7 @@ pub struct Entered<E> {
     pub entry: E,
 }
 
-/// A number that a pass stands for, and the entries of the turns that were taken under it.
+/// A number that a pass holds, and the entries of the turns that were taken under it.
 pub struct Share<E> {
     pub number: u64,
     pub own: LinkedList<E, Global>,
@@ -33,56 +35,48 @@ pub struct View<T, E> {
     pub announced: LinkedList<E, Global>,
 }
 
-/// Where the value stands between turns. While it is out, the entry of the turn that was taken with it.
+/// Where the value is, with the entry of the last turn that was taken on it.
 pub struct Slot<T, E> {
-    pub value: Option<T>,
+    pub value: T,
     pub entry: Option<Chosen<E>>,
 }
 
 impl<T, E> Slot<T, E> {
-    pub(crate) fn empty() -> Slot<T, E>
-        ensures { (result.value ≡ None) × (result.entry ≡ None) }
-    {
-        Slot {
-            value: None,
-            entry: None,
-        }
-    }
-
     pub(crate) fn of(value: T) -> Slot<T, E>
-        ensures { (result.value ≡ Some value) × (result.entry ≡ None) }
+        ensures { result.value ≡ value }
     {
-        Slot {
-            value: Some(value),
-            entry: None,
-        }
-    }
-
-    pub(crate) fn noted(entry: Chosen<E>) -> Slot<T, E>
-        ensures { (result.value ≡ None) × (result.entry ≡ Some entry) }
-    {
-        Slot {
-            value: None,
-            entry: Some(entry),
-        }
+        Slot { value, entry: None }
     }
 
     pub(crate) fn into_value(self) -> T
-        requires { (value : T) × (self.value ≡ Some value) }
-        ensures { self.value ≡ Some result }
+        ensures { result ≡ self.value }
     {
         let Slot { value, entry } = self;
         drop(entry);
-        let Some(value) = value else { unreachable!() };
         value
     }
+}
 
-    pub(crate) fn discard(self)
-        requires { self.value ≡ None }
+impl<T: Turned> Slot<T, T::Entry> {
+    // The value takes the call where it is, and the slot has the entry of that turn.
+    pub(crate) fn turn(&mut self, call: T::Call) -> T::Reply
+        requires { T.may_take call }
+        ensures { (chosen : Chosen T.Entry) × (self.new.entry ≡ Some chosen)
+            × T.step self.old.value call chosen.entry result self.new.value }
     {
-        let Slot { value, entry } = self;
-        drop(entry);
-        let None = value else { unreachable!() };
+        let old = Snapshot::of(&self.value);
+        let asked = Snapshot::of(&call);
+        let answer = self.value.turn(call);
+        let reply = Snapshot::of(&answer);
+        let new = Snapshot::of(&self.value);
+        let turn = Taken {
+            old,
+            call: asked,
+            reply,
+            new,
+        };
+        self.entry = Some(Chosen::of(&turn));
+        answer
     }
 }
 
@@ -121,4 +115,4 @@ pub type Board<T> = Table<
     Global,
 >;
 
-pub type Place<T> = Seat<Slot<T, <T as Turned>::Entry>, View<T, <T as Turned>::Entry>>;
+pub type PassSeat<T> = Seat<Slot<T, <T as Turned>::Entry>, View<T, <T as Turned>::Entry>>;

@@ -52,7 +52,8 @@ unsafe impl<E> Sync for Chosen<E> {}
 impl<E> Chosen<E> {
     // `turn` says that there is an entry, and a step on the table can only tell what a slot holds.
     pub(crate) fn of<T: Turned<Entry = E>>(turn: &Taken<T>) -> Chosen<E>
-        requires { (entry : E) × T.step turn.now.old.value turn.now.call.value entry turn.now.reply.value turn.now.new.value }
+        requires { (entry : E)
+            × T.step turn.now.old.value turn.now.call.value entry turn.now.reply.value turn.now.new.value }
         ensures { T.step turn.now.old.value turn.now.call.value result.entry turn.now.reply.value turn.now.new.value }
     {
         let _ = turn;

@@ -3,7 +3,7 @@ ghost use Rattle.std.specs.Prelude.{◌≡◌, ◌+◌, ◌%◌, ◌^◌};
 
 use crate::turned::Turned;
 
-/// A sum that wraps at 2^64. A call adds a number and answers the sum; the entry of its turn is that number.
+/// A sum that wraps at 2^64. A call adds a number and returns the sum; the entry of its turn is that number.
 #[derive(Drop)]
 pub struct Counter {
     pub sum: u64,
@@ -16,7 +16,8 @@ impl Turned for Counter {
 
     type Entry = u64;
 
-    ghost step = { λ old call entry reply new. (entry ≡ call) × (reply ≡ (old.sum + call) % 2 ^ 64) × (new.sum ≡ reply) };
+    ghost step = { λ old call entry reply new.
+        (entry ≡ call) × (reply ≡ (old.sum + call) % 2 ^ 64) × (new.sum ≡ reply) };
 
     fn turn(&mut self, call: u64) -> u64 {
         self.sum = self.sum.wrapping_add(call);

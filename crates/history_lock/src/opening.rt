@@ -1,29 +1,38 @@
 //! How a lock is opened, and its passes are dealt.
-ghost use Rattle.std.specs.Prelude.{◌≡◌, ◌+◌, ◌-◌, ◌<◌, ◌≤◌, false, [], ◌∷◌, ◌++◌, IfOk, IfErr, IfSome, IsNone, ◌↔◌, Some, vec_len, vec_capacity};
-ghost use Rattle.history_lock.specs.Rule.{fresh, opening_view};
+ghost use Rattle.std.specs.Prelude.{◌≡◌, ◌+◌, ◌-◌, ◌<◌, ◌≤◌, [], ◌∷◌, ◌++◌, IfOk, IfErr, IfSome, IsNone, ◌↔◌, vec_len, vec_capacity};
+ghost use Rattle.history_lock.specs.Rule.{opening_view};
 ghost use Rattle.history_lock.specs.Passes.{id_of, first_of, passes_of, lock_of_all, all_of, left_of, taken_of, IsFresh, AreDealt};
 
-use crate::board::{Origin, Place, Slot};
+use crate::board::{Origin, PassSeat, Slot};
 use crate::lock::Shared;
 use crate::pass::{Pass, Passes};
+use crate::places::Places;
 use crate::plays::Deal;
+use crate::seats::STRIDE;
 use crate::turned::Turned;
 use atomic_table::{Refused, Table};
 use std::alloc::{AllocError, Global};
 use std::snapshot::Snapshot;
 
-// The most passes, and the words beside theirs.
-const MOST_WORDS: usize = 64 + 2;
-
+// The table over the value, and its first seat.
 fn lay<T: Turned>(
     alloc: Global,
     value: T,
     passes: usize,
-) -> Result<(Shared<T>, Place<T>), (T, AllocError)>
+) -> Result<(Shared<T>, PassSeat<T>), (T, AllocError)>
     requires { passes ≤ 64 }
-    ensures ok { IfOk result (λ r. (first_of r.0 ≡ value) × (passes_of r.0 ≡ passes) × (r.1.table_id ≡ r.0.table.shared.table_id) × (r.1.me ≡ (opening_view value passes, []))) }
-    ensures err { IfErr result (λ r. r.0 ≡ value) }
+    ensures first { IfOk result (λ r. first_of r.0 ≡ value) }
+    ensures passes { IfOk result (λ r. passes_of r.0 ≡ passes) }
+    ensures table { IfOk result (λ r. r.1.table_id ≡ r.0.table.shared.table_id) }
+    ensures view { IfOk result (λ r. r.1.me ≡ (opening_view value passes, [])) }
+    ensures refused { IfErr result (λ r. r.0 ≡ value) }
 {
+    let Ok(places) = Places::new(alloc) else {
+        return Err((value, AllocError));
+    };
+    let Ok(words) = vec![in alloc; 0u64; (passes + 2) * STRIDE] else {
+        return Err((value, AllocError));
+    };
     let origin = Origin {
         first: Snapshot::of(&value),
         passes: passes as u64,
@@ -34,9 +43,8 @@ fn lay<T: Turned>(
         slots.destroy_empty();
         return Err((failed.value.into_value(), AllocError));
     }
-    let words = [0u64; MOST_WORDS];
-    match Table::new(alloc, &words[..passes + 2], slots, &origin) {
-        Ok((table, seat)) => Ok((Shared { table }, seat)),
+    match Table::new(alloc, words.as_slice(), slots, &origin) {
+        Ok((table, seat)) => Ok((Shared { table, places }, seat)),
         Err(Refused { mut slots }) => {
             let Some(slot) = slots.pop() else {
                 unreachable!()
@@ -64,14 +72,19 @@ fn add<T: Turned>(waiting: &mut Vec<Pass<T>>, pass: Pass<T>)
 // Splits a pass off for each number, the largest first.
 fn deal<T: Turned>(
     lock: &Shared<T>,
-    source: &mut Place<T>,
+    source: &mut PassSeat<T>,
     waiting: &mut Vec<Pass<T>>,
     passes: usize,
 )
-    requires lock { (source.old.table_id ≡ lock.now.table.shared.table_id) × (source.old.me ≡ (opening_view lock.now.table.shared.key.first.value lock.now.table.shared.key.passes, [])) × (passes ≡ lock.now.table.shared.key.passes) }
-    requires room { (waiting.old.items ≡ []) × (passes ≤ vec_capacity waiting.old) }
-    ensures source { (source.new.table_id ≡ source.old.table_id) × (source.new.me.0.first ≡ source.old.me.0.first) }
-    ensures waiting { (vec_len waiting.new ≡ passes) × AreDealt (source.old.table_id, source.old.me.0.first) passes waiting.new.items }
+    requires lock { source.old.table_id ≡ lock.now.table.shared.table_id }
+    requires source { source.old.me ≡ (opening_view (first_of lock.now) (passes_of lock.now), []) }
+    requires passes { passes ≡ passes_of lock.now }
+    requires empty { waiting.old.items ≡ [] }
+    requires room { passes ≤ vec_capacity waiting.old }
+    ensures lock { source.new.table_id ≡ source.old.table_id }
+    ensures first { source.new.me.0.first ≡ source.old.me.0.first }
+    ensures count { vec_len waiting.new ≡ passes }
+    ensures dealt { AreDealt (source.old.table_id, source.old.me.0.first) passes waiting.new.items }
 {
     for dealt in 0..passes {
         let seat = lock.table.shared.split_seat::<Deal>(source);
@@ -84,16 +97,24 @@ fn deal<T: Turned>(
 }
 
 impl<T: Turned> Shared<T> {
-    /// Opens a lock over a value, with 1 to 64 passes. Without memory the value comes back. The answer's first part is
-    /// to be closed and its second to be ended, and each pass is to be spent: none of them can be let go.
+    /// Opens a lock over a value, with 1 to 64 passes. If memory is refused, the value comes back. The lock is to be
+    /// closed, the passes are to be ended, and each pass is to be joined or to close the lock: none of them can be let
+    /// go.
     pub fn open(
         alloc: Global,
         value: T,
         passes: u32,
     ) -> Result<(Shared<T>, Passes<T>), (T, AllocError)>
-        requires { (1 ≤ passes) × (passes ≤ 64) }
-        ensures ok { IfOk result (λ r. (first_of r.0 ≡ value) × (passes_of r.0 ≡ passes) × (lock_of_all r.1 ≡ id_of r.0) × (all_of r.1 ≡ passes) × (left_of r.1 ≡ passes)) }
-        ensures err { IfErr result (λ r. r.0 ≡ value) }
+        requires some { 1 ≤ passes }
+        requires few { passes ≤ 64 }
+        ensures first { IfOk result (λ r. first_of r.0 ≡ value) }
+        ensures passes { IfOk result (λ r. passes_of r.0 ≡ passes) }
+
+        ensures lock { IfOk result (λ r. lock_of_all r.1 ≡ id_of r.0) }
+        ensures all { IfOk result (λ r. all_of r.1 ≡ passes) }
+        ensures left { IfOk result (λ r. left_of r.1 ≡ passes) }
+
+        ensures refused { IfErr result (λ r. r.0 ≡ value) }
     {
         let all = passes as usize;
         let Ok(mut waiting) = Vec::with_capacity(alloc, all) else {
@@ -120,12 +141,13 @@ impl<T: Turned> Shared<T> {
 }
 
 impl<T: Turned> Passes<T> {
-    /// Takes the next pass. The numbers go up from 0. `None` comes exactly where all were taken.
+    /// Takes the next pass. The numbers go up from 0. It is `None` exactly when all were taken.
     pub fn take(&mut self) -> Option<Pass<T>>
         ensures none { IsNone result ↔ (left_of self.old ≡ 0) }
         ensures some { IfSome result (IsFresh (lock_of_all self.old) (taken_of self.old)) }
         ensures left { left_of self.new ≡ left_of self.old - 1 }
-        ensures rest { (lock_of_all self.new ≡ lock_of_all self.old) × (all_of self.new ≡ all_of self.old) }
+        ensures lock { lock_of_all self.new ≡ lock_of_all self.old }
+        ensures all { all_of self.new ≡ all_of self.old }
     {
         self.waiting.pop()
     }

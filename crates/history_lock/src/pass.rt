@@ -1,34 +1,41 @@
 //! The passes of a lock, and what is left of them at its end.
-ghost use Rattle.std.specs.Prelude.{◌≡◌, ℕ, ◌+◌, ◌<◌, ◌≤◌, false, [], ◌∷◌, vec_len, slice_get, Some};
-ghost use Rattle.history_lock.specs.Told.{own_of, other_shares};
+ghost use Rattle.std.specs.Prelude.{◌≡◌, ℕ, ◌+◌, ◌<◌, ◌≤◌, [], ◌∷◌, vec_len, slice_get, Some};
+ghost use Rattle.history_lock.specs.History.{FirstIs, HoldsOwn, share_of};
+ghost use Rattle.history_lock.specs.Rule.{number_word};
+ghost use Rattle.history_lock.specs.Told.{IsResting};
 
-use crate::board::Place;
+use crate::board::PassSeat;
 use crate::turned::Turned;
 use std::snapshot::Snapshot;
 
-/// The right to take turns. Contracts see whose pass it is (`lock_of`), the history that it has `seen`, and its `shares`: the
-/// numbers that it stands for, its own first, each with the entries of the turns that were taken under it.
+/// The right to take turns. Contracts see whose pass it is (`lock_of`), the history that it has `seen`, and its
+/// `shares`: the numbers that it holds, its own first, each with the entries of the turns that were taken under it.
+/// These are the entries of that number in what the pass has seen (`holds_own`).
 pub struct Pass<T: Turned> {
-    pub(crate) seat: Place<T>,
+    pub(crate) seat: PassSeat<T>,
     pub(crate) number: usize,
+    pub ghost holds_own: { HoldsOwn seat.me.0.seen seat.me.0.shares },
+    pub ghost first_is_own: { FirstIs number seat.me.0.shares },
     ghost bare: { seat.me.1 ≡ [] },
-    ghost rests: { (seat.me.0.tickets ≡ []) × (seat.me.0.come ≡ false) × (seat.me.0.announced ≡ []) × (seat.me.0.noted ≡ []) },
-    ghost numbered: { seat.me.0.shares ≡ (record { number = number; own = own_of seat.me.0.shares }) ∷ other_shares seat.me.0.shares },
-    ghost inside: { (number < 64) × (number + 2 < seat.table_id.words) },
+    ghost rests: { IsResting seat.me.0 },
+    ghost few: { number < 64 },
+    ghost inside: { number_word number < seat.table_id.words },
 }
 
 /// The passes of a lock that nobody has taken yet. The last in the list has the lowest number.
 pub struct Passes<T: Turned> {
-    pub(crate) source: Place<T>,
+    pub(crate) source: PassSeat<T>,
     pub(crate) waiting: Vec<Pass<T>>,
     pub(crate) all: usize,
     ghost room: { vec_len waiting ≤ all },
-    ghost dealt: { (k : ℕ) (p : _) → slice_get waiting.items k ≡ Some p → (p.seat.table_id ≡ source.table_id) × (p.seat.me.0.first ≡ source.me.0.first) × (p.seat.me.0.seen ≡ []) × (p.seat.me.0.shares ≡ (record { number = p.number; own = [] }) ∷ []) × (p.number + (k + 1) ≡ all) },
+    ghost dealt: { (k : ℕ) (p : _) → slice_get waiting.items k ≡ Some p
+        → (p.seat.table_id ≡ source.table_id) × (p.seat.me.0.first ≡ source.me.0.first) × (p.seat.me.0.seen ≡ [])
+        × (p.seat.me.0.shares ≡ share_of p.number [] ∷ []) × (p.number + (k + 1) ≡ all) },
 }
 
-/// What a lock leaves behind. It has no bytes: contracts see its one history, `past`, and the `past_shares` of its numbers.
+/// What a lock leaves. It has no bytes: contracts see its one history, `past`, and the `past_shares` of its numbers.
 pub struct Record<T: Turned> {
-    pub(crate) last: Snapshot<Place<T>>,
+    pub(crate) last: Snapshot<PassSeat<T>>,
 }
 
 impl<T: Turned> Drop for Record<T> {

@@ -1,6 +1,6 @@
 //! What a value has to offer to be taken in turns.
 
-/// A value that answers one call at a time. Its turns make the history of a lock, one entry a turn.
+/// A value that takes one call at a time. Its turns make the history of a lock, one entry a turn.
 pub trait Turned {
     type Call;
 

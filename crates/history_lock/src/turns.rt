@@ -9,9 +9,9 @@ use crate::turned::Turned;
 use std::sync::Wait;
 
 impl<T: Turned> Shared<T> {
-    /// Waits for a turn, takes it with this call, and answers its reply. Afterwards the pass has seen a history that goes
-    /// on from what it had seen and ends with this turn, which is one more of its own. It takes no memory of its own: what
-    /// the value takes is `turn`'s.
+    /// Waits for a turn, takes it with this call, and returns its reply. Afterwards the pass has seen a history that
+    /// has what it had seen as a prefix and ends with this turn, which is one more of its own. It takes no memory of
+    /// its own: what the value takes is `turn`'s.
     pub fn apply<R: Wait>(&self, rt: &R, pass: &mut Pass<T>, call: T::Call) -> T::Reply
         requires lock { lock_of pass.old ≡ id_of self.now }
         requires call { T.may_take call }
@@ -21,6 +21,8 @@ impl<T: Turned> Shared<T> {
         let number = pass.number;
         let ticket = draw(self, &mut pass.seat);
         wait_turn(rt, self, &mut pass.seat, ticket);
-        take_turn(self, &mut pass.seat, number, call)
+        let answer = take_turn(self, &mut pass.seat, number, call);
+        self.places.wake(ticket.wrapping_add(1));
+        answer
     }
 }

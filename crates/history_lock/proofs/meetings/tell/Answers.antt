@@ -4,5 +4,5 @@ use Rattle.history_lock.proofs.Ends.{splits_note}
 use Rattle.history_lock.proofs.meetings.tell.Goals as goal
 
 pub split_seat-note-requires : goal.split_seat-note-requires
-split_seat-note-requires g c = let words = c.args.lock.now.sized.0 in
-    (c.requires.lock.0, omega arith, splits_note (Leads g.T.Turned.step) c.args.lock.now.table.shared.key.first.value c.args.lock.now.table.shared.key.passes c.args.seat.now.id c.args.seat.now.me.0)
+split_seat-note-requires g c = let words = c.args.lock.now.sized in
+    (c.requires.seat, omega arith, splits_note (Leads g.T.Turned.step) c.args.lock.now.table.shared.key.first.value c.args.lock.now.table.shared.key.passes c.args.seat.now.id c.args.seat.now.me.0)

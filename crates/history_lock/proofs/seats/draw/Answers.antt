@@ -5,7 +5,7 @@ use Rattle.history_lock.proofs.Moves.{draws}
 use Rattle.history_lock.proofs.seats.draw.Goals as goal
 
 pub fetch_add-requires : goal.fetch_add-requires
-fetch_add-requires g c = let words = c.args.lock.now.sized.0 in
+fetch_add-requires g c = let words = c.args.lock.now.sized in
     (c.requires.table, omega arith, draws (Leads g.T.Turned.step) c.args.lock.now.table.shared.key.first.value c.args.lock.now.table.shared.key.passes _ _ _ c.requires.rests.0 c.requires.rests.1)
 
 pub returns : goal.returns

@@ -9,7 +9,7 @@ use Rattle.history_lock.proofs.tests.add_often.Goals as goal
 pub loop-preserved : goal.loop-preserved
 loop-preserved g c =
     let turn = c.apply.ensures.turn in let more = turn.has_own in let as_one = turn.stepped.0 in
-    let numbered = ap length c.loop.pass.numbered in let some : 0 < length (shares c.loop.pass) = omega arith in
+    let numbered = ap length c.loop.pass.first_is_own in let some : 0 < length (shares c.loop.pass) = omega arith in
     let turns = ap turns_of more ∙ turns-grown turn.entry (shares c.loop.pass) some in
     let added = ap added_of more ∙ added-grown turn.entry (shares c.loop.pass) some in
     let turns' = c.loop.invariant.turns in let added' = c.loop.invariant.added in record {

@@ -8,10 +8,10 @@ use Rattle.history_lock.proofs.tests.close.Goals as goal
 
 pub returns-clause-history : goal.returns-clause-history
 returns-clause-history c = let r = c.close.result.1 in
-    whole_turns (passes_of c.args.lock) (past r) (past_shares r) c.close.ensures.taken.0 c.close.ensures.taken.1 c.close.ensures.own ∙ ap turns_of c.close.ensures.past.1
+    whole_turns (passes_of c.args.lock) (past r) (past_shares r) c.close.ensures.numbers c.close.ensures.once c.close.ensures.own ∙ ap turns_of c.close.ensures.shares
 
 pub returns-clause-sum : goal.returns-clause-sum
-returns-clause-sum c = let r = c.close.result.1 in let none = c.requires.lock.1 in
-    let all = whole_added (passes_of c.args.lock) (past r) (past_shares r) c.close.ensures.taken.0 c.close.ensures.taken.1 c.close.ensures.own ∙ ap added_of c.close.ensures.past.1 in
+returns-clause-sum c = let r = c.close.result.1 in let none = c.requires.first in
+    let all = whole_added (passes_of c.args.lock) (past r) (past_shares r) c.close.ensures.numbers c.close.ensures.once c.close.ensures.own ∙ ap added_of c.close.ensures.shares in
     let sum = runs_add (Leads ghosts.step) (λ old e new s. s.2.2 ∙ (s.2.1 ∙ ap (λ x. (old.sum + x) % 18446744073709551616) (sym s.2.0))) (first_of c.args.lock) (entries (past r)) c.close.result.0 (omega arith) c.close.ensures.value in
     omega arith

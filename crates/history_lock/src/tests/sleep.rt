@@ -1,0 +1,108 @@
+//! Turns that take longer than a waiter spins.
+ghost use Rattle.std.specs.Prelude.{◌≡◌, ℕ, ◌+◌, ◌%◌, ◌^◌};
+ghost use Rattle.std.specs.Thread.{IsSync};
+ghost use Rattle.history_lock.specs.History.{held, HoldsAll};
+ghost use Rattle.history_lock.specs.Passes.{id_of, passes_of, lock_of, shares, IsFresh};
+
+use crate::{Pass, Shared, Turned};
+use std::hint;
+use std::sync::Wait;
+use std::test::Fail;
+use std::thread::{Threads, join_mut};
+
+// A sum whose turns take 25 times as long as a waiter spins that comes next.
+#[derive(Drop)]
+struct SlowSum {
+    sum: u64,
+}
+
+impl Turned for SlowSum {
+    type Call = u64;
+
+    type Reply = u64;
+
+    type Entry = u64;
+
+    ghost step = { λ old call entry reply new.
+        (entry ≡ call) × (reply ≡ (old.sum + call) % 2 ^ 64) × (new.sum ≡ reply) };
+
+    fn turn(&mut self, call: u64) -> u64 {
+        for _ in 0..100_000_u32 {
+            hint::spin_loop();
+        }
+        self.sum = self.sum.wrapping_add(call);
+        self.sum
+    }
+}
+
+fn add_slowly<R: Wait>(rt: &R, lock: &Shared<SlowSum>, pass: &mut Pass<SlowSum>)
+    requires { lock_of pass.old ≡ id_of lock.now }
+    ensures lock { lock_of pass.new ≡ id_of lock.now }
+    ensures numbers { (k : ℕ) → held k (shares pass.new) ≡ held k (shares pass.old) }
+{
+    for _ in 0..20_u64 {
+        lock.apply(rt, pass, 1);
+    }
+}
+
+// Each thread sleeps while the other takes its turn, and is woken.
+fn add_both<R: Threads + Wait + Sync>(
+    rt: &R,
+    lock: &Shared<SlowSum>,
+    one: &mut Pass<SlowSum>,
+    two: &mut Pass<SlowSum>,
+)
+    requires one { lock_of one.old ≡ id_of lock.now }
+    requires two { lock_of two.old ≡ id_of lock.now }
+    ensures one_lock { lock_of one.new ≡ id_of lock.now }
+    ensures one_numbers { (k : ℕ) → held k (shares one.new) ≡ held k (shares one.old) }
+    ensures two_lock { lock_of two.new ≡ id_of lock.now }
+    ensures two_numbers { (k : ℕ) → held k (shares two.new) ≡ held k (shares two.old) }
+{
+    join_mut(
+        rt,
+        &mut ||
+            requires { IsSync R.row × (lock_of one.now ≡ id_of lock.now) }
+            ensures lock { lock_of one.exit.now ≡ id_of lock.entry.now }
+            ensures numbers { (k : ℕ) → held k (shares one.exit.now) ≡ held k (shares one.entry.now) }
+        { add_slowly(rt, lock, one) },
+        &mut ||
+            requires { IsSync R.row × (lock_of two.now ≡ id_of lock.now) }
+            ensures lock { lock_of two.exit.now ≡ id_of lock.entry.now }
+            ensures numbers { (k : ℕ) → held k (shares two.exit.now) ≡ held k (shares two.entry.now) }
+        { add_slowly(rt, lock, two) },
+    );
+}
+
+fn add_both_and_close<R: Threads + Wait + Sync>(
+    rt: &R,
+    lock: Shared<SlowSum>,
+    mut one: Pass<SlowSum>,
+    mut two: Pass<SlowSum>,
+) -> SlowSum
+    requires count { passes_of lock ≡ 2 }
+    requires one { IsFresh (id_of lock) 0 one }
+    requires two { IsFresh (id_of lock) 1 two }
+{
+    add_both(rt, &lock, &mut one, &mut two);
+    lock.join(&mut one, two);
+    let (slow, _past) = lock.close(one);
+    slow
+}
+
+#[test]
+fn a_thread_that_sleeps_is_woken_for_its_turn(rt: HostRuntime) -> Result<(), Fail> {
+    let Ok((lock, mut passes)) = Shared::open(rt.alloc(), SlowSum { sum: 0 }, 2) else {
+        panic!(rt; "no memory")
+    };
+    let Some(one) = passes.take() else {
+        panic!(rt; "no pass")
+    };
+    let Some(two) = passes.take() else {
+        panic!(rt; "no second pass")
+    };
+    passes.end();
+    let slow = add_both_and_close(&rt, lock, one, two);
+    assert!(rt; slow.sum == 40);
+    Ok(())
+}
