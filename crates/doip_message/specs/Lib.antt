@@ -2,6 +2,5 @@ pub mod Asked
 pub mod Reading
 pub mod Fields
 pub mod Reply
-pub mod Entries
 pub mod Fixed
 pub mod Pairs

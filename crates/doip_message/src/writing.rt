@@ -1,5 +1,5 @@
 //! Writing a response.
-ghost use Rattle.std.specs.Prelude.{◌≡◌, ◌∷◌, ◌++◌, option_map, IfOk, OnOk};
+ghost use Rattle.std.specs.Prelude.{◌≡◌, ◌∷◌, ◌++◌, option_map, IfOk, OnOk, MatchOption};
 ghost use Rattle.doip_json.specs.Value.{table, entries_from};
 ghost use Rattle.doip_json.specs.Text.{text_of};
 ghost use Rattle.doip_segment.specs.Segments.{segment};
@@ -7,7 +7,9 @@ ghost use Rattle.doip_json.specs.Meaning.{value_of};
 ghost use Rattle.doip_segment.specs.Canonical.{AreEncodable};
 ghost use Rattle.doip_message.specs.Reply.{replied_of, attributes_value, output_value, output_parts, entries_with, response_segments, CanFollow};
 ghost use Rattle.doip_message.specs.Asked.{content_of};
-ghost use Rattle.doip_message.specs.Entries.{put_some};
+ghost use Rattle.std.specs.Ordering.{nat_cmp};
+ghost use Rattle.std.specs.Cmp.Lexicographic.{slice_cmp};
+ghost use Rattle.std.specs.BTreeMap.{insert_entry};
 
 use crate::request::Body;
 use crate::response::{Response, Status};
@@ -107,7 +109,8 @@ fn put_if_some(
     key: &str,
     value: Option<Json>,
 ) -> Result<(), AllocError>
-    ensures { OnOk result (entries.new ≡ put_some entries.old key.now (option_map value_of value)) }
+    ensures { OnOk result (MatchOption value (entries.new ≡ entries.old)
+        (λ v. entries.new ≡ insert_entry (slice_cmp nat_cmp) entries.old key.now (value_of v))) }
 {
     match value {
         None => Ok(()),

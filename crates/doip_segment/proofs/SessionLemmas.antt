@@ -7,7 +7,7 @@ use Rattle.doip_segment.specs.declared.outcome.Step.{Step}
 use Rattle.doip_segment.specs.declared.outcome.Step.TheVariants.{More, Message, Fault}
 use Rattle.doip_segment.specs.Framing.{NothingSpelt, Framed, Broken, IsUnfinished, saturated}
 use Rattle.doip_segment.specs.Decoding.{Decoding, Frames}
-use Rattle.doip_segment.specs.Session.{Call, came_after, IsSession, bytes_of, messages_of, rest_of, EndsAt, Ends}
+use Rattle.doip_segment.specs.Session.{Call, came_after, IsSession, bytes_of, messages_read, rest_of, EndsAt, Ends}
 use Rattle.doip_segment.proofs.LawLemmas.{spelling_some, one_framing}
 
 -- a prefix of bytes that begin with no message begins with none
@@ -105,14 +105,14 @@ before_next limits past came fed before now old new =
     }
 
 pub record Reached (limits : Limits) (past came : List ℕ) (calls : List Call) (last : Step) : Type 0 where
-  pub framed : Framed limits (came ++ bytes_of calls) (messages_of calls) (rest_of came calls)
+  pub framed : Framed limits (came ++ bytes_of calls) (messages_read calls) (rest_of came calls)
   pub ends : Ends limits (past ++ (came ++ bytes_of calls)) (rest_of came calls) last calls
 
 -- bytes that were taken by a call join those that came before it
-on : (limits : Limits) (past came fed : List ℕ) (calls : List Call) (last : Step) → Reached limits past (came ++ fed) calls last → (Framed limits (came ++ (fed ++ bytes_of calls)) (messages_of calls) (rest_of (came ++ fed) calls)) × (Ends limits (past ++ (came ++ (fed ++ bytes_of calls))) (rest_of (came ++ fed) calls) last calls)
+on : (limits : Limits) (past came fed : List ℕ) (calls : List Call) (last : Step) → Reached limits past (came ++ fed) calls last → (Framed limits (came ++ (fed ++ bytes_of calls)) (messages_read calls) (rest_of (came ++ fed) calls)) × (Ends limits (past ++ (came ++ (fed ++ bytes_of calls))) (rest_of (came ++ fed) calls) last calls)
 on limits past came fed calls last r =
     let same = append_assoc came fed (bytes_of calls) in
-    (subst (λ (x : List ℕ). Framed limits x (messages_of calls) (rest_of (came ++ fed) calls)) same r.framed, subst (λ (x : List ℕ). Ends limits (past ++ x) (rest_of (came ++ fed) calls) last calls) same r.ends)
+    (subst (λ (x : List ℕ). Framed limits x (messages_read calls) (rest_of (came ++ fed) calls)) same r.framed, subst (λ (x : List ℕ). Ends limits (past ++ x) (rest_of (came ++ fed) calls) last calls) same r.ends)
 
 -- bytes that a message ends join those that were framed before it
 past_on : (past came fed bytes : List ℕ) → (past ++ (came ++ fed)) ++ ([] ++ bytes) ≡ past ++ (came ++ (fed ++ bytes))
@@ -141,13 +141,13 @@ reached limits past came count [] last before is = record { framed = (append-nil
 reached limits past came count (call ∷ calls) last before is = reached_by limits past came call.piece call.used count call.step call.decoder calls before.taken is.1 is.0 (λ earlier next then. reached limits earlier (came_after came call call.step) call.decoder.taken calls next then is.3) last
 
 -- The messages of a session, and its rest, are those of its bytes.
-pub session_framed : (limits : Limits) (calls : List Call) → IsSession limits [] 0 calls → Framed limits (bytes_of calls) (messages_of calls) (rest_of [] calls)
+pub session_framed : (limits : Limits) (calls : List Call) → IsSession limits [] 0 calls → Framed limits (bytes_of calls) (messages_read calls) (rest_of [] calls)
 session_framed limits calls is = (reached limits [] [] 0 calls More (before_start limits) is).framed
 
 pub session_ends : (limits : Limits) (calls : List Call) → IsSession limits [] 0 calls → Ends limits (bytes_of calls) (rest_of [] calls) More calls
 session_ends limits calls is = (reached limits [] [] 0 calls More (before_start limits) is).ends
 
-pub sessions_same : (limits : Limits) (calls others : List Call) → IsSession limits [] 0 calls → IsSession limits [] 0 others → bytes_of calls ≡ bytes_of others → (messages_of calls ≡ messages_of others) × (rest_of [] calls ≡ rest_of [] others)
+pub sessions_same : (limits : Limits) (calls others : List Call) → IsSession limits [] 0 calls → IsSession limits [] 0 others → bytes_of calls ≡ bytes_of others → (messages_read calls ≡ messages_read others) × (rest_of [] calls ≡ rest_of [] others)
 sessions_same limits calls others is as_ e =
-    let second = subst (λ (x : List ℕ). Framed limits x (messages_of others) (rest_of [] others)) (sym e) (session_framed limits others as_) in
-    one_framing limits (bytes_of calls) (messages_of calls) (messages_of others) (rest_of [] calls) (rest_of [] others) (session_framed limits calls is) second
+    let second = subst (λ (x : List ℕ). Framed limits x (messages_read others) (rest_of [] others)) (sym e) (session_framed limits others as_) in
+    one_framing limits (bytes_of calls) (messages_read calls) (messages_read others) (rest_of [] calls) (rest_of [] others) (session_framed limits calls is) second

@@ -42,8 +42,8 @@ message_at Message segments = segments ∷ []
 message_at _ segments = []
 
 -- the messages that were returned
-abbrev pub messages_of : List Call → List (List Segment)
-messages_of calls = flat_map (λ (c : Call). message_at c.step c.decoder.segments) calls
+abbrev pub messages_read : List Call → List (List Segment)
+messages_read calls = flat_map (λ (c : Call). message_at c.step c.decoder.segments) calls
 
 -- what came since the last message, at the end
 abbrev pub rest_of : List ℕ → List Call → List ℕ

@@ -9,7 +9,7 @@ ghost use Rattle.doip_segment.specs.Canonical.{AreEncodable, canonical};
 ghost use Rattle.doip_segment.specs.Framing.{IsWithin, Framed, Broken};
 ghost use Rattle.doip_segment.specs.declared.outcome.Step.TheVariants.{More};
 ghost use Rattle.doip_segment.specs.Decoding.{Decoding, Took, Frames};
-ghost use Rattle.doip_segment.specs.Session.{Call, IsSession, bytes_of, messages_of, rest_of, Ends};
+ghost use Rattle.doip_segment.specs.Session.{Call, IsSession, bytes_of, messages_read, rest_of, Ends};
 
 /// No spelling is a proper prefix of another, and each is a spelling of one message.
 pub fn no_spelling_begins_another()
@@ -67,10 +67,10 @@ pub fn what_stands_is_what_came()
 /// fault exactly when the rest breaks, at that place of the session's bytes and for that reason.
 pub fn pieces_do_not_matter()
     ensures framed { (limits : Limits) (calls : List Call) → IsSession limits [] 0 calls
-        → Framed limits (bytes_of calls) (messages_of calls) (rest_of [] calls) }
+        → Framed limits (bytes_of calls) (messages_read calls) (rest_of [] calls) }
     ensures ends { (limits : Limits) (calls : List Call) → IsSession limits [] 0 calls
         → Ends limits (bytes_of calls) (rest_of [] calls) More calls }
     ensures same { (limits : Limits) (calls others : List Call)
         → IsSession limits [] 0 calls → IsSession limits [] 0 others → bytes_of calls ≡ bytes_of others
-        → (messages_of calls ≡ messages_of others) × (rest_of [] calls ≡ rest_of [] others) }
+        → (messages_read calls ≡ messages_read others) × (rest_of [] calls ≡ rest_of [] others) }
 {}

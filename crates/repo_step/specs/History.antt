@@ -97,11 +97,12 @@ is_of lane session e = nat_eq e.lane lane && nat_eq e.session session
 abbrev pub session_pairs : Setting → State → ℕ → ℕ → List Entry → List Pair
 session_pairs setting first lane session history = pairs_where setting (λ e. e) (is_of lane session) first history
 
--- Moments never fall along a history.
-abbrev pub MomentsFrom : ℕ → List Entry → Type 0
-MomentsFrom moment [] = Unit {0}
-MomentsFrom moment (e ∷ es) = (moment ≤ e.moment) × MomentsFrom e.moment es
+-- Moments never fall along items that give an entry each.
+abbrev pub MomentsFrom : {A : Type 0} → (A → Entry) → ℕ → List A → Type 0
+MomentsFrom entry_of moment [] = Unit {0}
+MomentsFrom entry_of moment (a ∷ more) =
+    (moment ≤ (entry_of a).moment) × MomentsFrom entry_of (entry_of a).moment more
 
--- What a history from a first state keeps. Done and out of memory may come in every state.
-pub record Legal (setting : Setting) (first : State) (history : List Entry) : Type 0 where
-  pub moments : MomentsFrom 0 history
+-- What items that give an entry each keep as a history from a first state. Done and out of memory may come in every state.
+pub record Legal {A : Type 0} (setting : Setting) (entry_of : A → Entry) (first : State) (items : List A) : Type 0 where
+  pub moments : MomentsFrom entry_of 0 items

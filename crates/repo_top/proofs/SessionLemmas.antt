@@ -23,7 +23,7 @@ all_more P [] x all one = (one, tt)
 all_more P (y ∷ xs) x all one = (all.0, all_more P xs x all.1 one)
 
 -- moments that are all 0 never fall
-never_fall : (m : ℕ) (es : List Entry) → m ≡ 0 → AllByRecursion (λ e. e.moment ≡ 0) es → MomentsFrom m es
+never_fall : (m : ℕ) (es : List Entry) → m ≡ 0 → AllByRecursion (λ e. e.moment ≡ 0) es → MomentsFrom (λ e. e) m es
 never_fall m [] zero all = tt
 never_fall m (e ∷ es) zero all = (omega (arith, zero, all.0), never_fall e.moment es all.0 all.1)
 

@@ -30,7 +30,7 @@ pub record Seat : Type 0 where
 -- The history of a run without a store: legal, all of it of this one session, and at moment 0, since there is no disk's
 -- clock. The text for out of memory is the reply to an entry only if its outcome says so.
 pub record IsPast (setting : Setting) (lane session : ℕ) (history : List Entry) : Type 0 where
-  pub legal : Legal setting first_state history
+  pub legal : Legal setting (λ e. e) first_state history
   pub no_other : IsAllOf lane session history
   pub moments : AllByRecursion (λ e. e.moment ≡ 0) history
   pub causes : AllByRecursion (λ x. reply_text x.reply ≡ reply_text memory_reply → x.entry.outcome ≡ NoMemory)

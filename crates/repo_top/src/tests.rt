@@ -42,7 +42,7 @@ fn run(alloc: Global, texts: &[&str], link: MemoryLink) -> Result<Ran<MemoryHost
 }
 
 // IsRunOf `answer 35.TEST/svc` over these bytes.
-fn answer(alloc: Global, bytes: &[u8]) -> Result<Ran<MemoryHost>, Fail> {
+fn run_over(alloc: Global, bytes: &[u8]) -> Result<Ran<MemoryHost>, Fail> {
     run(
         alloc,
         &["answer", "35.TEST/svc"],
@@ -83,7 +83,7 @@ fn worked_rows_have_their_replies(rt: HostRuntime) -> Result<(), Fail> {
         ),
     ];
     for (request, reply) in refused {
-        let ran = answer(alloc, &joined(alloc, &[request, HELLO])?)?;
+        let ran = run_over(alloc, &joined(alloc, &[request, HELLO])?)?;
         assert_eq!(rt; written(&ran), joined(alloc, &[reply, DONE])?.as_slice());
         assert_eq!(rt;
             (ran.status, ran.note, ran.end),
@@ -92,9 +92,9 @@ fn worked_rows_have_their_replies(rt: HostRuntime) -> Result<(), Fail> {
     }
     let lenient =
         b"{\n  \"requestId\": \"a\",\n  \"clientId\": \"me\",\n  \"targetId\": \"35.TEST/svc\",\n  \"operationId\": \"0.DOIP/Op.Hello\",\n  \"attributes\": {},\n  \"extra\": [1]\n}\n#\r\n#\r\n";
-    let ran = answer(alloc, lenient)?;
+    let ran = run_over(alloc, lenient)?;
     assert_eq!(rt; written(&ran), DONE_WITH_ID);
-    let none = answer(alloc, b"")?;
+    let none = run_over(alloc, b"")?;
     assert_eq!(rt;
         (none.status, none.end, written(&none)),
         (0, Some(SessionEnd::Ended), b"".as_slice())
@@ -136,7 +136,7 @@ fn a_session_ends_cut_or_framing(rt: HostRuntime) -> Result<(), Fail> {
     let alloc = rt.alloc();
     for length in 1..HELLO.len() {
         let place = length as u64;
-        let ran = answer(alloc, &HELLO[..length])?;
+        let ran = run_over(alloc, &HELLO[..length])?;
         assert_eq!(rt;
             ran.note,
             Note::End(SessionEnd::Cut { place }),
