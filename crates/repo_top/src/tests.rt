@@ -179,18 +179,14 @@ fn each_failed_call_ends_the_session(rt: HostRuntime) -> Result<(), Fail> {
             place: HELLO.len() as u64 + 2,
             reason: Reason::Marker,
         };
-        let (status, end, texts): (u8, SessionEnd, &[&[u8]]) = match call {
-            0 => (7, SessionEnd::ReadFault, &[]),
-            1 => (7, SessionEnd::WriteFault, &[]),
-            2 => (7, SessionEnd::WriteFault, &[DONE]),
-            _ => (0, framing, &[DONE, FRAMING]),
+        let (status, end, text) = match call {
+            0 => (7, SessionEnd::ReadFault, Vec::new(alloc)),
+            1 => (7, SessionEnd::WriteFault, Vec::new(alloc)),
+            2 => (7, SessionEnd::WriteFault, Vec::from_slice(alloc, DONE)?),
+            _ => (0, framing, joined(alloc, &[DONE, FRAMING])?),
         };
         assert_eq!(rt; (ran.status, ran.end), (status, Some(end)), "at {call}");
-        assert_eq!(rt;
-            written(&ran),
-            joined(alloc, texts)?.as_slice(),
-            "at {call}"
-        );
+        assert_eq!(rt; written(&ran), text.as_slice(), "at {call}");
     }
     Ok(())
 }
