@@ -5,7 +5,9 @@ use Rattle.std.proofs.lemmas.List.{append-nil, take_all, take_at, drop_at, drop_
 use Rattle.disk_core.specs.Disk.{DiskState, IsImageNow, written, Torn, Same, Syncs, Never}
 use Rattle.disk_core.specs.Runs.{Spans}
 use Rattle.disk_core.proofs.RunLaws.{past_then, syncs_same_then}
-use Rattle.journal_core.specs.File.{header, base_of, inside_of, HoldsAt, Holds, IsNotAStore}
+use Rattle.journal_core.specs.declared.layout.Format.TheVariants.{Second}
+use Rattle.std.proofs.lemmas.List.Elements.{All-nil}
+use Rattle.journal_core.specs.File.{Fits, header, base_of, inside_of, HoldsAt, Holds, IsNotAStore}
 use Rattle.journal_core.specs.Init.{new_file, new_length, Founds, HasSynced}
 use Rattle.journal_core.proofs.Headers.{length-header}
 use Rattle.journal_core.proofs.Lists.{written_after, torn_byte}
@@ -17,18 +19,19 @@ pub written_text : (area : ℕ) → written 0 (68 ∷ []) (new_file 0 area) ≡ 
 written_text area = written_after [] (new_file 0 area) (68 ∷ []) 0 refl
 
 pub length-new_file : (first area : ℕ) → length (new_file first area) ≡ 34
-length-new_file first area = omega (arith, length-append (drop 1 (header area 0)) (1 ∷ 0 ∷ []), length-drop 1 (header area 0), length-header area 0)
+length-new_file first area = omega (arith, length-append (drop 1 (header area 0)) (2 ∷ 0 ∷ []), length-drop 1 (header area 0), length-header area 0)
 
 -- a new file whose text is whole
-pub holds_new : (area : ℕ) → 64 ≤ area → area ≤ 268435456 → HoldsAt (new_file 68 area) area 0 []
+pub holds_new : (area : ℕ) → 64 ≤ area → area ≤ 268435456 → HoldsAt Second (new_file 68 area) area 0 []
 holds_new area low high =
     let base : base_of area 0 ≡ 32 = omega arith in
-    let inside : inside_of (new_file 68 area) area 0 ≡ 1 ∷ 0 ∷ [] =
+    let inside : inside_of (new_file 68 area) area 0 ≡ 2 ∷ 0 ∷ [] =
     ap (λ (n : ℕ). take area (drop n (new_file 68 area))) base
-    ∙ ap (λ (l : List ℕ). take area l) (drop_at (header area 0) (1 ∷ 0 ∷ []) 32 (length-header area 0))
-    ∙ take_all area (1 ∷ 0 ∷ []) (omega (arith, low)) in
+    ∙ ap (λ (l : List ℕ). take area l) (drop_at (header area 0) (2 ∷ 0 ∷ []) 32 (length-header area 0))
+    ∙ take_all area (2 ∷ 0 ∷ []) (omega (arith, low)) in
     record {
-      has = record { least = low; most = high; side_byte = 0; side_is = refl; prefix = take_at (header area 0) (1 ∷ 0 ∷ []) 32 (length-header area 0) };
+      has = record { least = low; most = high; side_byte = 0; side_is = refl; prefix = take_at (header area 0) (2 ∷ 0 ∷ []) 32 (length-header area 0) };
+      fits = All-nil (Fits Second);
       gate = 0;
       rest = [];
       is = inside;
@@ -43,12 +46,12 @@ other_text first rest other area side has = absurd (other (head first _ _ has.pr
     head a s t e = cc
 
 -- whatever a crash makes of the first byte
-pub torn_text : (area : ℕ) (image : List ℕ) → 64 ≤ area → area ≤ 268435456 → Torn 0 1 (new_file 0 area) image → IsNotAStore image ⊎ Holds image []
+pub torn_text : (area : ℕ) (image : List ℕ) → 64 ≤ area → area ≤ 268435456 → Torn 0 1 (new_file 0 area) image → IsNotAStore image ⊎ Holds Second image []
 torn_text area image low high torn =
-    let rest : List ℕ = drop 1 (header area 0) ++ 1 ∷ 0 ∷ [] in
+    let rest : List ℕ = drop 1 (header area 0) ++ 2 ∷ 0 ∷ [] in
     let one = torn_byte [] rest image 0 0 refl torn in
     elim (cases_eq one.0 68) [
-      | inl whole ↦ inr (area, 0, subst (λ (f : List ℕ). HoldsAt f area 0 []) (sym (one.1 ∙ ap (λ (b : ℕ). b ∷ rest) whole)) (holds_new area low high))
+      | inl whole ↦ inr (area, 0, subst (λ (f : List ℕ). HoldsAt Second f area 0 []) (sym (one.1 ∙ ap (λ (b : ℕ). b ∷ rest) whole)) (holds_new area low high))
       | inr other ↦ inl (subst IsNotAStore (sym one.1) (other_text one.0 rest other))
     ]
 
@@ -78,11 +81,11 @@ founds_none old new span syncs = record {
 }
 
 -- both writes were made, and the first one's sync succeeded
-pub founds_second : (old mid new : DiskState) (area : ℕ) (First Second : ℕ → Type 0) → 64 ≤ area → area ≤ 268435456
-    → ((moment : ℕ) → First moment → moment ≡ mid.moment) → Syncs old mid First → Syncs mid new Second
+pub founds_second : (old mid new : DiskState) (area : ℕ) (Once Again : ℕ → Type 0) → 64 ≤ area → area ≤ 268435456
+    → ((moment : ℕ) → Once moment → moment ≡ mid.moment) → Syncs old mid Once → Syncs mid new Again
     → Spans old mid (Torn 0 34) → ((image : List ℕ) → IsImageNow mid image → image ≡ new_file 0 area)
     → Spans mid new (Torn 0 1) → Founds old new
-founds_second old mid new area First Second low high ends syncs more first settled second =
+founds_second old mid new area Once Again low high ends syncs more first settled second =
     let whole : length (new_file 0 area) ≡ 34 = length-new_file 0 area in
     let torn_at : (moment : ℕ) (image : List ℕ) → mid.moment ≤ moment → moment ≤ new.moment → new.image_at moment image
     → Torn 0 1 (new_file 0 area) image =

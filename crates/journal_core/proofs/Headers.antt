@@ -4,8 +4,7 @@ use Rattle.std.proofs.lemmas.List.{take_at, drop_at, take_all, take-take, get_or
 use Rattle.std.specs.Int.{w64, from_be_bytes}
 use Rattle.journal_core.specs.Layout.{magic}
 use Rattle.journal_core.specs.File.{big_endian, header, HasHeader}
-use Rattle.journal_core.proofs.Parts.{length-big_endian}
-use Rattle.journal_core.proofs.Fields.{field_read, from_field, take_bytes}
+use Rattle.journal_core.proofs.Fields.{length-big_endian, field_read, from_field, take_bytes}
 
 -- 32 bytes, cut where a header's parts end
 pub record Cut (prefix text field zeros : List ℕ) (side_byte : ℕ) : Type 0 where

@@ -1,12 +1,19 @@
-mod Results
 mod Lists
-mod Parts
-mod Unique
-mod Meanings
-mod Causes
-mod Commits
+mod Results
 mod Fields
+mod Written
+mod Parts
+mod Commits
+mod Causes
+mod Unique
+pub mod Meanings
+pub mod LawLemmas
 mod Headers
-mod Opens
 mod Founding
-mod LawLemmas
+mod Reading
+mod Writing
+mod Staging
+mod Opens
+mod Adding
+mod Gathering
+mod Turning

@@ -1,6 +1,7 @@
 -- Lists of bytes: pieces written into them, and what a torn write leaves.
-use Rattle.std.proofs.Common.{◌≡◌, ℕ, ◌+◌, ◌-◌, ◌≤◌, ◌<◌, min, List, [], ◌∷◌, ◌++◌, length, get_or, take, drop, replicate, refl, sym, ◌∙◌, ap, arith, append_assoc, length-append, length-take, take-append-drop}
-use Rattle.std.proofs.lemmas.List.{length-replicate, take_at, drop_at, take-take, take-append-le, drop-drop, drop_more}
+use Rattle.std.proofs.Common.{◌≡◌, ℕ, ◌+◌, ◌-◌, ◌≤◌, ◌<◌, min, inl, inr, List, [], ◌∷◌, ◌++◌, length, get_or, take, drop, replicate, refl, sym, ◌∙◌, ap, arith, append_assoc, length-append, length-take, length-drop, take-append-drop}
+use Rattle.std.proofs.lemmas.Bool.{cases_lt}
+use Rattle.std.proofs.lemmas.List.{length-replicate, take_at, drop_at, take_all, take-take, take-append-le, drop-drop, drop-take, drop_more}
 use Rattle.std.proofs.Math.Seq.{take-append-add}
 use Rattle.disk_core.specs.Disk.{written, Torn}
 
@@ -75,3 +76,35 @@ read_more into sub suffix file filled count place within fits inside before now 
     ∙ ap (λ (l : List ℕ). take filled (drop place file) ++ take count l) (sym (drop-drop filled place file))
     ∙ sym (cut (take filled (drop place file)) (drop filled (drop place file)) also)
     ∙ ap (λ (l : List ℕ). take (filled + count) l) (take-append-drop filled (drop place file))
+
+-- a prefix is the same up to two lengths, if the list ends before the first
+pub all_taken : (xs : List ℕ) (n m : ℕ) → n ≤ m → (n < m → length xs ≡ n) → take n xs ≡ take m xs
+all_taken xs n m le ends = elim (cases_lt n m) [
+  | inl less ↦ take_all n xs (omega (arith, ends less)) ∙ sym (take_all m xs (omega (arith, ends less, less)))
+  | inr same ↦ (let is : n ≡ m = omega (arith, le, same) in ap (λ (k : ℕ). take k xs) is)
+]
+
+-- what a part of a piece of a file has
+pub piece_read : (bytes file : List ℕ) (count start place skipped n : ℕ) → take count bytes ≡ take count (drop start file) → start + skipped ≡ place → skipped + n ≤ count
+    → take n (take (count - skipped) (drop skipped bytes)) ≡ take n (drop place file)
+piece_read bytes file count start place skipped n is at fits =
+    let part : (xs : List ℕ) → take n (drop skipped xs) ≡ drop skipped (take (skipped + n) (take count xs)) = λ xs.
+    sym (drop-take skipped n xs) ∙ ap (λ (l : List ℕ). drop skipped l) (sym (take-take (skipped + n) count xs fits)) in
+    take-take n (count - skipped) (drop skipped bytes) (omega (arith, fits))
+    ∙ part bytes ∙ ap (λ (l : List ℕ). drop skipped (take (skipped + n) l)) is ∙ sym (part (drop start file))
+    ∙ ap (λ (l : List ℕ). take n l) (drop-drop skipped start file ∙ ap (λ (k : ℕ). drop k file) at)
+
+-- a read that goes on after another, as far as it was asked or the file goes
+pub read_on : (into sub suffix file : List ℕ) (kept count place : ℕ) → kept ≤ length into → count ≤ length sub → kept ≤ length (drop place file)
+    → take kept into ≡ take kept (drop place file) → take count sub ≡ take (length sub) (drop (place + kept) file) → length suffix ≡ 0
+    → take (kept + count) (take kept into ++ (sub ++ suffix)) ≡ take (length (take kept into ++ (sub ++ suffix))) (drop place file)
+read_on into sub suffix file kept count place within fits inside before now none =
+    let rest : ℕ = length (drop (place + kept) file) in
+    let sizes : min count (length sub) ≡ min (length sub) rest = sym (length-take count sub) ∙ ap length now ∙ length-take (length sub) (drop (place + kept) file) in
+    let whole : length (take kept into ++ (sub ++ suffix)) ≡ kept + length sub =
+    omega (arith, length-append (take kept into) (sub ++ suffix), length-append sub suffix, length-take kept into, within, none) in
+    let shorter : take count sub ≡ take count (drop (place + kept) file) =
+    now ∙ sym (all_taken (drop (place + kept) file) count (length sub) fits (λ less. omega (arith, sizes, less))) in
+    read_more into sub suffix file kept count place within fits inside before shorter
+    ∙ all_taken (drop place file) (kept + count) (length (take kept into ++ (sub ++ suffix))) (omega (arith, whole, fits))
+    (λ less. omega (arith, whole, sizes, less, fits, inside, length-drop (place + kept) file, length-drop place file))

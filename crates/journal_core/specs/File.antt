@@ -1,8 +1,13 @@
--- What a journal's file stands for: one list of bodies, or one refusal.
-use Rattle.std.specs.Prelude.{◌≡◌, ◌≢◌, ◌⊎◌, ℕ, ◌+◌, ◌*◌, ◌%◌, ◌≤◌, List, [], ◌∷◌, ◌++◌, length, take, drop, replicate}
-use Rattle.std.specs.List.{flat_map}
+-- What a journal's file stands for: one list of records, or one refusal.
+use Rattle.std.specs.Prelude.{◌≡◌, ◌≢◌, ◌⊎◌, ℕ, ◌+◌, ◌*◌, ◌%◌, ◌^◌, ◌<◌, ◌≤◌, List, [], ◌∷◌, ◌++◌, length, take, drop, replicate}
+use Rattle.std.specs.List.{All, flat_map}
 use Rattle.std.specs.Int.{w64, to_be_bytes}
-use Rattle.journal_core.specs.Layout.{magic, header_length, least_area, most_area, version, open_gate, closed_gate}
+use Rattle.sha2.specs.Sha256.{sha256}
+use Rattle.journal_core.specs.Layout.{magic, header_length, least_area, most_area, most_number, version_of, open_gate, closed_gate}
+use Rattle.journal_core.specs.declared.layout.Format.{Format}
+use Rattle.journal_core.specs.declared.layout.Format.TheVariants.{First, Second}
+use Rattle.journal_core.specs.declared.records.Record.{Record}
+use Rattle.journal_core.specs.declared.records.Stamp.{Stamp}
 
 -- the eight bytes of a number, the highest first
 unfoldable pub big_endian : ℕ → List ℕ
@@ -28,66 +33,96 @@ base_of area side = header_length + side * area
 abbrev pub inside_of : List ℕ → ℕ → ℕ → List ℕ
 inside_of file area side = take area (drop (base_of area side) file)
 
--- an open gate, the length of a body, and the body
-abbrev pub opened : List ℕ → List ℕ
-opened body = open_gate ∷ (big_endian (length body) ++ body)
+-- the stamp of a record in format 1, which has none
+abbrev pub no_stamp : Stamp
+no_stamp = record { number = 0; time = 0 }
 
--- what is written after a closed gate: the length of a body, the body, and the next gate, closed
-abbrev pub staged_record : List ℕ → List ℕ
-staged_record body = big_endian (length body) ++ (body ++ closed_gate ∷ [])
+-- what stands between a record's gate and its body: the length of the body, and in format 2 the number and the time
+abbrev pub fields_of : Format → Record → List ℕ
+fields_of First entry = big_endian (length entry.body)
+fields_of Second entry =
+    big_endian (length entry.body) ++ (big_endian entry.stamp.number ++ big_endian entry.stamp.time)
 
--- the version byte, and an open record for each body
-abbrev pub listed : List (List ℕ) → List ℕ
-listed bodies = version ∷ flat_map opened bodies
+-- what stands after the body: in format 2 the SHA-256 (FIPS 180-4) of the fields and the body
+abbrev pub check_of : Format → Record → List ℕ
+check_of First entry = []
+check_of Second entry = sha256 (fields_of Second entry ++ entry.body)
 
--- The area of this side begins, inside file and area, with these bodies' records and then a gate that isn't open.
-pub record HoldsAt (file : List ℕ) (area side : ℕ) (bodies : List (List ℕ)) : Type 0 where
+-- a record without its gate
+abbrev pub content_of : Format → Record → List ℕ
+content_of format entry = fields_of format entry ++ (entry.body ++ check_of format entry)
+
+-- the stamps that records of a format can have: none, or a number in its bounds and a time of 64 bits
+abbrev pub Fits : Format → Record → Type 0
+Fits First entry = entry.stamp ≡ no_stamp
+Fits Second entry = (entry.stamp.number ≤ most_number) × (entry.stamp.time < 2 ^ 64)
+
+-- a record with its gate open
+abbrev pub opened : Format → Record → List ℕ
+opened format entry = open_gate ∷ content_of format entry
+
+-- the version byte, and each record with its gate open
+abbrev pub listed : Format → List Record → List ℕ
+listed format entries = version_of format ∷ flat_map (opened format) entries
+
+-- an area as it is written whole: the list, and a closed gate
+abbrev pub written_list : List Record → List ℕ
+written_list entries = listed Second entries ++ closed_gate ∷ []
+
+-- what is written after a closed gate to add records: all but the gate of the first, and a closed gate
+abbrev pub staged_records : List Record → List ℕ
+staged_records entries = drop 1 (flat_map (opened Second) entries ++ closed_gate ∷ [])
+
+-- The area of this side begins, inside file and area, with these records and then a gate that isn't open.
+pub record HoldsAt (format : Format) (file : List ℕ) (area side : ℕ) (entries : List Record) : Type 0 where
   pub has : HasHeader file area side
+  pub fits : All (Fits format) entries
   pub gate : ℕ
   pub rest : List ℕ
-  pub is : inside_of file area side ≡ listed bodies ++ gate ∷ rest
+  pub is : inside_of file area side ≡ listed format entries ++ gate ∷ rest
   pub shut : gate ≢ open_gate
 
--- the file holds these bodies
-abbrev pub Holds : List ℕ → List (List ℕ) → Type 0
-Holds file bodies = (area : ℕ) × (side : ℕ) × HoldsAt file area side bodies
+-- the file holds these records
+abbrev pub Holds : Format → List ℕ → List Record → Type 0
+Holds format file entries = (area : ℕ) × (side : ℕ) × HoldsAt format file area side entries
 
 -- the file begins with no header, or ends before the version byte
 abbrev pub IsNotAStore : List ℕ → Type 0
 IsNotAStore file = (area side : ℕ) → HasHeader file area side → inside_of file area side ≡ []
 
 -- the version byte is another one
-abbrev pub HasVersion : List ℕ → ℕ → Type 0
-HasVersion file byte = (area : ℕ) × (side : ℕ) × (rest : List ℕ) × HasHeader file area side
-    × (inside_of file area side ≡ byte ∷ rest) × (byte ≢ version)
+abbrev pub HasVersion : Format → List ℕ → ℕ → Type 0
+HasVersion format file byte = (area : ℕ) × (side : ℕ) × (rest : List ℕ) × HasHeader file area side
+    × (inside_of file area side ≡ byte ∷ rest) × (byte ≢ version_of format)
 
--- no whole length, body and next gate begin here
-abbrev pub LacksRecord : List ℕ → Type 0
-LacksRecord suffix =
-    (body : List ℕ) (gate : ℕ) (rest : List ℕ) → suffix ≢ big_endian (length body) ++ (body ++ gate ∷ rest)
+-- no whole record and next gate begin here: too few bytes, a number out of bounds, or another digest
+abbrev pub LacksRecord : Format → List ℕ → Type 0
+LacksRecord format suffix = (entry : Record) (gate : ℕ) (rest : List ℕ) → Fits format entry
+    → suffix ≢ content_of format entry ++ gate ∷ rest
 
 -- After these whole records the file is damaged: it ends right after the version byte, or an open gate is there, and
--- after that no whole length, body and next gate.
-abbrev pub IsBroken : List (List ℕ) → List ℕ → Type 0
-IsBroken bodies tail =
-    ((bodies ≡ []) × (tail ≡ [])) ⊎ ((suffix : List ℕ) × (tail ≡ open_gate ∷ suffix) × LacksRecord suffix)
+-- after that no whole record with the next gate.
+abbrev pub IsBroken : Format → List Record → List ℕ → Type 0
+IsBroken format entries tail =
+    ((entries ≡ []) × (tail ≡ [])) ⊎ ((suffix : List ℕ) × (tail ≡ open_gate ∷ suffix) × LacksRecord format suffix)
 
 -- the gate at this place of the file is missing, or open with no whole record after it
-abbrev pub IsDamaged : List ℕ → ℕ → Type 0
-IsDamaged file place = (area : ℕ) × (side : ℕ) × (bodies : List (List ℕ)) × (tail : List ℕ) × HasHeader file area side
-    × (inside_of file area side ≡ listed bodies ++ tail) × IsBroken bodies tail
-    × (place ≡ base_of area side + length (listed bodies))
+abbrev pub IsDamaged : Format → List ℕ → ℕ → Type 0
+IsDamaged format file place = (area : ℕ) × (side : ℕ) × (entries : List Record) × (tail : List ℕ)
+    × HasHeader file area side × All (Fits format) entries
+    × (inside_of file area side ≡ listed format entries ++ tail) × IsBroken format entries tail
+    × (place ≡ base_of area side + length (listed format entries))
 
--- what a file may stand for: bodies, or a refusal with its byte or place
+-- what a file may stand for: records, or a refusal with its byte or place
 pub data Meaning : Type 0 where
-  holds : List (List ℕ) → Meaning
+  holds : List Record → Meaning
   not_a_store : Meaning
   other_version : ℕ → Meaning
   damaged : ℕ → Meaning
 
--- the file stands for that
-abbrev pub Means : List ℕ → Meaning → Type 0
-Means file (holds bodies) = Holds file bodies
-Means file not_a_store = IsNotAStore file
-Means file (other_version byte) = HasVersion file byte
-Means file (damaged place) = IsDamaged file place
+-- the file, read in this format, stands for that
+abbrev pub Means : Format → List ℕ → Meaning → Type 0
+Means format file (holds entries) = Holds format file entries
+Means format file not_a_store = IsNotAStore file
+Means format file (other_version byte) = HasVersion format file byte
+Means format file (damaged place) = IsDamaged format file place

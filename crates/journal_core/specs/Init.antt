@@ -4,14 +4,15 @@ use Rattle.std.specs.Option.{ForSome}
 use Rattle.base_core.specs.Causes.{Rose}
 use Rattle.disk_core.specs.Disk.{DiskState, IsImageNow, IsSettled, SamePast, SameSyncs}
 use Rattle.disk_core.specs.Runs.{LeavesSince, LeavesAlone}
-use Rattle.journal_core.specs.Layout.{version, closed_gate}
+use Rattle.journal_core.specs.Layout.{version_of, closed_gate}
 use Rattle.journal_core.specs.File.{header, HoldsAt, Holds, IsNotAStore}
+use Rattle.journal_core.specs.declared.layout.Format.TheVariants.{Second}
 use Rattle.journal_core.specs.declared.create.InitFault.{InitFault}
 use Rattle.journal_core.specs.declared.create.InitFault.TheVariants.{NotEmpty, DiskFault}
 
 -- the header of a new file, the version byte and a closed gate, with this byte as the first
 abbrev pub new_file : ℕ → ℕ → List ℕ
-new_file first area = first ∷ (drop 1 (header area 0) ++ version ∷ closed_gate ∷ [])
+new_file first area = first ∷ (drop 1 (header area 0) ++ version_of Second ∷ closed_gate ∷ [])
 
 -- the bytes of a new file
 abbrev pub new_length : ℕ
@@ -34,7 +35,7 @@ pub record Founds (old new : DiskState) : Type 0 where
   pub same_syncs : SameSyncs old new
   pub small : IsBlank old → LeavesSince new old.moment (λ image. length image ≤ new_length)
   pub from : (since : ℕ) → old.moment < since → new.synced_at since
-      → LeavesSince new since (λ image. IsNotAStore image ⊎ Holds image [])
+      → LeavesSince new since (λ image. IsNotAStore image ⊎ Holds Second image [])
 
 -- a sync succeeded in that run
 abbrev pub HasSynced : DiskState → DiskState → Type 0
@@ -43,7 +44,7 @@ HasSynced old new = (moment : ℕ) × (old.moment < moment) × (moment ≤ new.m
 -- The file was empty, and holds the empty list now. A sync succeeded, and every image is the file.
 pub record MakesFile (before after : DiskState) (area : ℕ) : Type 0 where
   pub empty : ForSome before.content (λ file. file ≡ [])
-  pub holds : ForSome after.content (λ file. HoldsAt file area 0 [])
+  pub holds : ForSome after.content (λ file. HoldsAt Second file area 0 [])
   pub settled : IsSettled after
   pub crash : ForSome after.content (λ _. Founds before after × HasSynced before after)
   pub count : before.faults ≤ after.faults

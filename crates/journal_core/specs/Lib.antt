@@ -1,7 +1,12 @@
 pub mod Layout
 pub mod File
 pub mod Journal
+pub mod Steps
 pub mod Open
 pub mod Init
+pub mod Turn
+pub mod Compact
+pub mod First
+pub mod Buffer
 pub mod Area
 pub mod OneMeaning

@@ -1,8 +1,9 @@
 -- The law that each file has one meaning.
-use Rattle.std.specs.Prelude.{◌≡◌, ℕ, ◌<◌, List, slice_index}
+use Rattle.std.specs.Prelude.{◌≡◌, ℕ, List}
 use Rattle.journal_core.specs.File.{Meaning, Means}
+use Rattle.journal_core.specs.declared.layout.Format.{Format}
 
--- each file of bytes holds exactly one list, or meets exactly one refusal
+-- In each format each file holds exactly one list, or meets exactly one refusal, whether its numbers are bytes or not.
 abbrev pub EachFileHasOneMeaning : Type 0
-EachFileHasOneMeaning = (file : List ℕ) → ((i : ℕ) → slice_index file i < 256)
-    → (meaning : Meaning) × Means file meaning × ((other : Meaning) → Means file other → other ≡ meaning)
+EachFileHasOneMeaning = (format : Format) (file : List ℕ)
+    → (meaning : Meaning) × Means format file meaning × ((other : Meaning) → Means format file other → other ≡ meaning)

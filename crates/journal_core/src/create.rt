@@ -5,6 +5,7 @@ ghost use Rattle.base_core.specs.Causes.{HasCause};
 ghost use Rattle.disk_core.specs.Disk.{IsSettled};
 ghost use Rattle.journal_core.specs.Layout.{least_area, most_area};
 ghost use Rattle.journal_core.specs.File.{HoldsAt};
+ghost use Rattle.journal_core.specs.declared.layout.Format.TheVariants.{Second};
 ghost use Rattle.journal_core.specs.Init.{new_file, Founds, HasSynced, MakesFile, IsInitRefused};
 
 use crate::layout::VERSION;
@@ -61,7 +62,7 @@ fn write_new<D: Disk>(disk: &mut D, area: u64) -> Result<(), Failed>
     requires least { least_area ≤ area }
     requires most { area ≤ most_area }
     ensures holds { OnOk result (ForSome (D.state disk.old).content (λ file. file ≡ []
-        → ForSome (D.state disk.new).content (λ new. HoldsAt new area 0 []))) }
+        → ForSome (D.state disk.new).content (λ new. HoldsAt Second new area 0 []))) }
     ensures settled { OnOk result (IsSettled (D.state disk.new)) }
     ensures reported { ForSome (D.state disk.new).content (λ _. IsSome (D.state disk.old).content) }
     ensures crash { ForSome (D.state disk.new).content (λ _. ForSome (D.state disk.old).content (λ file. file ≡ []

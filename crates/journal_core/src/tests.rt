@@ -1,14 +1,18 @@
 //! What no clause says: the bytes of the file, refusals of given files, and every image of a run opened again.
-ghost use Rattle.std.specs.Prelude.{◌≤◌};
+ghost use Rattle.std.specs.Prelude.{◌≡◌, ◌≤◌, IfOk};
+ghost use Rattle.std.specs.List.{All};
 ghost use Rattle.journal_core.specs.Layout.{least_area, most_area};
+ghost use Rattle.journal_core.specs.Journal.{IsNumbered};
 
 use super::*;
+use base_core::{Bytes, Items};
 use disk_core::{DiskCall, Failing, MemoryDisk};
 use std::alloc::Global;
 use std::test::Fail;
 
 mod crashes;
 mod damage;
+mod turns;
 
 // A journal that was made on this disk.
 fn journal_on(alloc: Global, disk: MemoryDisk, area: u64) -> Result<Journal<MemoryDisk>, Fail>
@@ -34,13 +38,71 @@ fn file_of(alloc: Global, area: u64, side_byte: u8, bytes: &[u8]) -> Result<Vec<
     Ok(file)
 }
 
+// The bytes that these hexadecimal digits are, in groups of any length.
+fn bytes_of(alloc: Global, text: &str) -> Result<Vec<u8>, Fail> {
+    let mut digits = Vec::new(alloc);
+    'digits: for byte in text.as_bytes() {
+        if *byte != b' ' {
+            digits.push(*byte)?;
+        }
+    }
+    match hex::decode(alloc, &digits) {
+        Ok(bytes) => Ok(bytes),
+        Err(_) => Err("not hexadecimal".into()),
+    }
+}
+
+// The stamp of the number and the time 0.
+fn stamp(number: u64) -> Stamp
+    ensures { result.number ≡ number }
+{
+    Stamp { number, time: 0 }
+}
+
+// The example of docs/FORMATS.md. The digests are another program's.
+fn example() -> &'static str {
+    "444f495052455031 00000000000000c0 00000000000000000000000000000000 02 \
+     01 0000000000000003 0000000000000001 00000000000003e8 616263 \
+     15ba0d1c0898d92031b4842fdf3a71826ec77eea9fbf4ef55a218a8d31445a51 \
+     01 0000000000000000 0000000000000002 00000000000007d0 \
+     f4b5609b2329d2756f7bb536fd205d1cd213525fa9c61e78e1523970d30eaef6 00"
+}
+
+#[test]
+fn a_file_of_two_records_has_these_bytes(rt: HostRuntime) -> Result<(), Fail> {
+    let alloc = rt.alloc();
+    let mut journal = journal_on(alloc, MemoryDisk::new(alloc, &[], &[])?, 192)?;
+    let first = Stamp {
+        number: 1,
+        time: 1000,
+    };
+    let second = Stamp {
+        number: 2,
+        time: 2000,
+    };
+    let added = journal.commit(first, b"abc").is_ok() && journal.commit(second, b"").is_ok();
+    assert!(rt; added);
+    let disk = journal.into_disk();
+    let wanted = bytes_of(alloc, example())?;
+    assert_eq!(rt; disk.file(), wanted.as_slice());
+    let Ok((_, entries)) = Journal::open(alloc, disk) else {
+        return Err("not opened".into());
+    };
+    assert_eq!(rt; entries.len(), 2);
+    assert_eq!(rt; entries.item(0).stamp, first);
+    assert_eq!(rt; entries.item(0).body.get(), b"abc".as_slice());
+    assert_eq!(rt; entries.item(1).stamp, second);
+    assert_eq!(rt; entries.item(1).body.get().len(), 0);
+    Ok(())
+}
+
 #[test]
 fn a_new_file_is_a_header_a_version_and_a_closed_gate(rt: HostRuntime) -> Result<(), Fail> {
     let alloc = rt.alloc();
-    let Ok(made) = init(MemoryDisk::new(alloc, &[], &[])?, 147) else {
+    let Ok(made) = init(MemoryDisk::new(alloc, &[], &[])?, 224) else {
         return Err("no file was made".into());
     };
-    let wanted = file_of(alloc, 147, 0, b"\x01\0")?;
+    let wanted = file_of(alloc, 224, 0, b"\x02\0")?;
     assert_eq!(rt; made.file(), wanted.as_slice());
     // The length, all but the first byte, a sync, the first byte, a sync.
     let mut places = Vec::new(alloc);
@@ -55,87 +117,114 @@ fn a_new_file_is_a_header_a_version_and_a_closed_gate(rt: HostRuntime) -> Result
     Ok(())
 }
 
-#[test]
-fn a_body_that_fills_the_area_fits(rt: HostRuntime) -> Result<(), Fail> {
-    let alloc = rt.alloc();
-    let body = vec![in alloc; 7; 136]?;
-    let mut journal = journal_on(alloc, MemoryDisk::new(alloc, &[], &[])?, 147)?;
-    assert_eq!(rt; journal.room(), Room { used: 1, area: 147 });
-    assert_eq!(rt; journal.side(), 0);
-    match journal.commit(&body) {
-        Ok(_) => {}
-        Err(_) => return Err("not added".into()),
-    }
-    let full = CommitFault::Full {
-        used: 146,
-        asked: 146,
-    };
-    assert_eq!(rt; journal.commit(&body).err(), Some(full));
-    let mut wanted = file_of(alloc, 147, 0, b"\x01\x01\0\0\0\0\0\0\0\x88")?;
-    wanted.extend_from_slice(&body)?;
-    wanted.push(0)?;
-    assert_eq!(rt; wanted.len(), 179);
-    assert_eq!(rt; journal.into_disk().file(), wanted.as_slice());
-    Ok(())
+// A journal in an area of this length, and what adding a body of this length to it returns.
+fn filled(
+    alloc: Global,
+    area: u64,
+    length: usize,
+) -> Result<(Journal<MemoryDisk>, Option<CommitFault>), Fail>
+    requires least { least_area ≤ area }
+    requires most { area ≤ most_area }
+{
+    let body = vec![in alloc; 7; length]?;
+    let mut journal = journal_on(alloc, MemoryDisk::new(alloc, &[], &[])?, area)?;
+    let fault = journal.commit(stamp(1), &body).err();
+    Ok((journal, fault))
 }
 
 #[test]
-fn a_body_one_byte_too_long_is_refused(rt: HostRuntime) -> Result<(), Fail> {
+fn a_body_fits_to_the_byte(rt: HostRuntime) -> Result<(), Fail> {
     let alloc = rt.alloc();
-    let body = vec![in alloc; 7; 136]?;
-    let mut journal = journal_on(alloc, MemoryDisk::new(alloc, &[], &[])?, 146)?;
-    let full = CommitFault::Full {
-        used: 1,
-        asked: 146,
+    let (mut journal, fault) = filled(alloc, 224, 165)?;
+    assert_eq!(rt; fault, None);
+    let room = Room {
+        used: 223,
+        area: 224,
     };
-    assert_eq!(rt; journal.commit(&body).err(), Some(full));
-    assert_eq!(rt; journal.into_disk().file().len(), 34);
-    Ok(())
-}
-
-#[test]
-fn the_least_area_takes_53_bytes(rt: HostRuntime) -> Result<(), Fail> {
-    let alloc = rt.alloc();
-    let body = vec![in alloc; 7; 53]?;
-    let mut journal = journal_on(alloc, MemoryDisk::new(alloc, &[], &[])?, 64)?;
-    match journal.commit(&body) {
-        Ok(_) => {}
-        Err(_) => return Err("not added".into()),
-    }
+    assert_eq!(rt; journal.room(), room);
+    let body = vec![in alloc; 7; 165]?;
     let full = CommitFault::Full {
-        used: 63,
-        asked: 10,
+        used: 223,
+        asked: 223,
     };
-    assert_eq!(rt; journal.commit(&[]).err(), Some(full));
-    Ok(())
-}
-
-#[test]
-fn opening_is_two_reads_and_a_commit_four_writes_and_two_syncs(
-    rt: HostRuntime,
-) -> Result<(), Fail> {
-    let alloc = rt.alloc();
-    let mut journal = journal_on(alloc, MemoryDisk::new(alloc, &[], &[])?, 64)?;
-    if journal.commit(b"abc").is_err() {
-        return Err("not added".into());
-    }
+    assert_eq!(rt; journal.commit(stamp(2), &body).err(), Some(full));
     let disk = journal.into_disk();
-    // Five calls made the file. To open it its length was asked, and the header and the area were read whole.
+    let file = disk.file();
+    assert_eq!(rt; file.len(), 256);
+    assert_eq!(rt; &file[33..42], b"\x01\0\0\0\0\0\0\0\xa5".as_slice());
+
+    let (journal, fault) = filled(alloc, 223, 165)?;
+    let over = CommitFault::Full {
+        used: 1,
+        asked: 223,
+    };
+    assert_eq!(rt; fault, Some(over));
+    assert_eq!(rt; journal.into_disk().file().len(), 34);
+
+    let (mut journal, fault) = filled(alloc, 64, 5)?;
+    assert_eq!(rt; fault, None);
+    let none = CommitFault::Full {
+        used: 63,
+        asked: 58,
+    };
+    assert_eq!(rt; journal.commit(stamp(2), &[]).err(), Some(none));
+    Ok(())
+}
+
+// Some records with bodies of one byte.
+fn three(alloc: Global) -> Result<Records, Fail>
+    ensures { IfOk result (λ entries. All IsNumbered entries) }
+{
+    let mut entries = Items::new(alloc);
+    let first = Bytes::of(alloc, b"a")?;
+    entries.push(Record {
+        stamp: stamp(1),
+        body: first,
+    })?;
+    let second = Bytes::of(alloc, b"b")?;
+    entries.push(Record {
+        stamp: stamp(2),
+        body: second,
+    })?;
+    let third = Bytes::of(alloc, b"c")?;
+    entries.push(Record {
+        stamp: stamp(3),
+        body: third,
+    })?;
+    Ok(entries)
+}
+
+#[test]
+fn records_that_commit_together_take_one_pair_of_syncs(rt: HostRuntime) -> Result<(), Fail> {
+    let alloc = rt.alloc();
+    let mut journal = journal_on(alloc, MemoryDisk::new(alloc, &[], &[])?, 256)?;
+    let before = journal.disk().calls().len();
+    let none = Items::new(alloc);
+    assert!(rt; journal.commit_all(&none).is_ok());
+    assert_eq!(rt; journal.disk().calls().len(), before);
+    assert!(rt; journal.commit_all(&three(alloc)?).is_ok());
+    let disk = journal.into_disk();
     let mut calls = Vec::new(alloc);
-    for noted in disk.calls().iter().skip(5) {
+    for noted in disk.calls().iter().skip(before) {
         calls.push((noted.call, noted.place, noted.bytes.get().len()))?;
     }
-    assert_eq!(rt; calls.len(), 9);
-    assert_eq!(rt; calls[0], (DiskCall::Length, 0, 0));
-    assert_eq!(rt; calls[1], (DiskCall::ReadAt, 0, 0));
-    assert_eq!(rt; calls[2], (DiskCall::ReadAt, 32, 0));
-    assert_eq!(rt; calls[3], (DiskCall::WriteAt, 34, 8));
-    assert_eq!(rt; calls[4], (DiskCall::WriteAt, 42, 3));
-    assert_eq!(rt; calls[5], (DiskCall::WriteAt, 45, 1));
-    assert_eq!(rt; calls[6], (DiskCall::Sync, 0, 0));
-    assert_eq!(rt; calls[7], (DiskCall::WriteAt, 33, 1));
-    assert_eq!(rt; calls[8], (DiskCall::Sync, 0, 0));
-    assert_eq!(rt; disk.starved, 0);
+    assert_eq!(rt; calls.len(), 12);
+    assert_eq!(rt; calls[0], (DiskCall::WriteAt, 34, 24));
+    assert_eq!(rt; calls[1], (DiskCall::WriteAt, 58, 1));
+    assert_eq!(rt; calls[2], (DiskCall::WriteAt, 59, 33));
+    assert_eq!(rt; calls[9], (DiskCall::Sync, 0, 0));
+    assert_eq!(rt; calls[10], (DiskCall::WriteAt, 33, 1));
+    assert_eq!(rt; calls[11], (DiskCall::Sync, 0, 0));
+    let Ok((mut journal, entries)) = Journal::open(alloc, disk) else {
+        return Err("not opened".into());
+    };
+    assert_eq!(rt; entries.len(), 3);
+    assert_eq!(rt; entries.item(2).body.get(), b"c".as_slice());
+    let full = CommitFault::Full {
+        used: 175,
+        asked: 175,
+    };
+    assert_eq!(rt; journal.commit_all(&three(alloc)?).err(), Some(full));
     Ok(())
 }
 
@@ -143,7 +232,7 @@ fn opening_is_two_reads_and_a_commit_four_writes_and_two_syncs(
 fn fault_at(alloc: Global, call: DiskCall, nth: u64) -> Result<Option<CommitFault>, Fail> {
     let disk = MemoryDisk::new(alloc, &[], &[Failing { call, nth }])?;
     let mut journal = journal_on(alloc, disk, 64)?;
-    Ok(journal.commit(b"abc").err())
+    Ok(journal.commit(stamp(1), b"abc").err())
 }
 
 #[test]
@@ -170,11 +259,11 @@ fn each_fault_has_its_text(rt: HostRuntime) -> Result<(), Fail> {
     let alloc = rt.alloc();
     let full = CommitFault::Full {
         used: 63,
-        asked: 10,
+        asked: 58,
     };
     assert_eq!(rt;
         full.to_string(alloc)?.as_str(),
-        "limit: area, 63 used, 10 asked"
+        "limit: area, 63 used, 58 asked"
     );
     assert_eq!(rt;
         CommitFault::DiskFault.to_string(alloc)?.as_str(),

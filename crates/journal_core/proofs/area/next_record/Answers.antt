@@ -1,31 +1,32 @@
-use Rattle.std.proofs.Common.{◌≡◌, inr, ℕ, ◌<◌, ◌^◌, List, ◌∷◌, length, get_or, subst, sym, ◌∙◌, ap, arith, rules, length-take, length-drop}
-use Rattle.journal_core.proofs.Fields.{lacks_length, lacks_body, record_read, take_bytes, bytes_after}
+use Rattle.std.proofs.Common.{◌≡◌, inr, ℕ, ◌+◌, ◌-◌, ◌≤◌, List, ◌∷◌, ◌++◌, length, ◌∙◌, ap, arith}
+use Rattle.journal_core.specs.Area.{rest_at}
+use Rattle.journal_core.proofs.Reading.{first_of, next_of, reaches_next, one_byte, next_open, record_some, record_none}
 use Rattle.journal_core.proofs.area.next_record.Goals as goal
 
-pub returns-in_default-split_first_chunk : goal.returns-in_default-split_first_chunk
-returns-in_default-split_first_chunk c =
-    let whole : c.args.rest.now ≡ 1 ∷ c.in-Some.suffix.now = c.in-Some.ensures.cases.0 ∙ ap (λ (g : ℕ). g ∷ c.in-Some.suffix.now) c.if-gate-ne-OPEN_GATE.false in
-    inr (c.in-Some.suffix.now, whole, lacks_length c.in-Some.suffix.now c.in_default-split_first_chunk.ensures.cases)
+pub returns-in-Some-clause-next : goal.returns-in-Some-clause-next
+returns-in-Some-clause-next g c = λ file is reaches.
+    let place = c.args.place in
+    let left = c.args.left in
+    let rest = rest_at file place left in
+    let gate = c.read_all.new.into in
+    let size : length gate ≡ 1 = omega (arith, c.read_all.auto.into) in
+    let fits : 1 ≤ left = omega (arith, size, c.in_ok-read_all.ensures.fits c.if-not-branch.false) in
+    let suffix = rest_at file (place + 1) (left - 1) in
+    let first = next_of file place left 1 gate size fits (first_of rest gate c.in_ok-read_all.field-0 c.if-not-branch.false (c.in_ok-read_all.ensures.first file is reaches)) in
+    let found = record_some c.args.format suffix c.in_ok-entry.field-0 c.in-Some.entry c.in-Some.is (c.in_ok-entry.ensures.found file (c.in_ok-read_all.ensures.same ∙ is) (reaches_next file place left 1 fits reaches)) in
+    let opens : rest ≡ 1 ∷ suffix = first ∙ ap (λ (l : List ℕ). l ++ suffix) (one_byte gate 1 size c.if-gate-ne-OPEN_GATE.false) in
+    (found.0, next_open c.args.format rest suffix c.in-Some.entry opens found.1)
 
-pub returns-then-length-suffix : goal.returns-then-length-suffix
-returns-then-length-suffix c =
-    let suffix = c.in-Some.suffix.now in
-    let parts = c.in-Some-split_first_chunk.ensures.cases in
-    let whole : c.args.rest.now ≡ 1 ∷ suffix = c.in-Some.ensures.cases.0 ∙ ap (λ (g : ℕ). g ∷ suffix) c.if-gate-ne-OPEN_GATE.false in
-    let small : length suffix < 2 ^ 64 = search rules in
-    inr (suffix, whole, lacks_body suffix c.in-Some-split_first_chunk.field.now c.in-Some-split_first_chunk.suffix.now c.from_be_bytes-length.result parts.0 parts.1 c.from_be_bytes-length.ensures c.if-length-suffix.true small)
-
-pub returns : goal.returns
-returns c =
-    let suffix = c.in-Some.suffix.now in
-    let field = c.in-Some-split_first_chunk.field.now in
-    let after = c.in-Some-split_first_chunk.suffix.now in
-    let parts = c.in-Some-split_first_chunk.ensures.cases in
-    let whole : c.args.rest.now ≡ 1 ∷ suffix = c.in-Some.ensures.cases.0 ∙ ap (λ (g : ℕ). g ∷ suffix) c.if-gate-ne-OPEN_GATE.false in
-    let size : length field ≡ 8 = ap length parts.0 ∙ omega (arith, length-take 8 suffix, parts.2) in
-    let bytes : (i : ℕ) → get_or field i 0 < 256 = λ i. subst (λ (l : List ℕ). get_or l i 0 < 256) (sym parts.0) (take_bytes 8 suffix (bytes_after c.args.rest.now suffix 1 whole c.type_inv.rest) i) in
-    let read = record_read suffix field after c.split_at.result.0.now c.split_at.result.1.now c.from_be_bytes-length.result parts.0 parts.1 size bytes c.from_be_bytes-length.ensures
-    c.split_at.ensures.front c.split_at.ensures.back c.if-length-suffix.false in (
-      whole ∙ ap (λ (l : List ℕ). 1 ∷ l) read,
-      λ none. absurd (omega (arith, ap length none, ap length c.split_at.ensures.back, length-drop c.from_be_bytes-length.result after, c.if-length-suffix.false)),
-    )
+pub returns-in-None-clause-next : goal.returns-in-None-clause-next
+returns-in-None-clause-next g c = λ file is reaches.
+    let place = c.args.place in
+    let left = c.args.left in
+    let rest = rest_at file place left in
+    let gate = c.read_all.new.into in
+    let size : length gate ≡ 1 = omega (arith, c.read_all.auto.into) in
+    let fits : 1 ≤ left = omega (arith, size, c.in_ok-read_all.ensures.fits c.if-not-branch.false) in
+    let suffix = rest_at file (place + 1) (left - 1) in
+    let first = next_of file place left 1 gate size fits (first_of rest gate c.in_ok-read_all.field-0 c.if-not-branch.false (c.in_ok-read_all.ensures.first file is reaches)) in
+    let found = record_none c.args.format suffix c.in_ok-entry.field-0 c.in-None.is (c.in_ok-entry.ensures.found file (c.in_ok-read_all.ensures.same ∙ is) (reaches_next file place left 1 fits reaches)) in
+    let opens : rest ≡ 1 ∷ suffix = first ∙ ap (λ (l : List ℕ). l ++ suffix) (one_byte gate 1 size c.if-gate-ne-OPEN_GATE.false) in
+    inr (suffix, opens, found)

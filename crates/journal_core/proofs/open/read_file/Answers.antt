@@ -1,8 +1,7 @@
-use Rattle.std.proofs.Common.{ℕ, ◌+◌, ◌*◌, ◌≤◌, ◌<◌, length, sym, ◌∙◌, ap, subst, arith}
+use Rattle.std.proofs.Common.{◌≡◌, ℕ, ◌-◌, min, length, ◌∙◌, arith}
 use Rattle.journal_core.specs.declared.header.Header.{Header}
-use Rattle.journal_core.specs.File.{HasHeader}
-use Rattle.journal_core.specs.Open.{IsCauseOf}
-use Rattle.journal_core.proofs.Opens.{cause_of, placed_of, no_header, inside_is, holds_read, used_within}
+use Rattle.journal_core.specs.File.{HasHeader, base_of}
+use Rattle.journal_core.proofs.Opens.{cause_of, no_header, inside_is, reaches_area, holds_read, refused_found}
 use Rattle.journal_core.proofs.Results.{match_some, match_none}
 use Rattle.journal_core.proofs.open.read_file.Goals as goal
 
@@ -11,30 +10,17 @@ returns-in_default-clause-meaning g c = λ file is.
     let first = c.in_ok-length.ensures.reads.same ∙ is in
     no_header file (match_none ((area side : ℕ) → HasHeader file area side → ⊥) (λ (header : Header). HasHeader file header.area header.side) c.in_ok-header.field-0 (c.in_ok-header.ensures.found file first) c.in_default.is)
 
-pub returns-in-Ok-clause-meaning : goal.returns-in-Ok-clause-meaning
-returns-in-Ok-clause-meaning g c = λ file is.
+pub returns-in_err-entries-clause-meaning : goal.returns-in_err-entries-clause-meaning
+returns-in_err-entries-clause-meaning g c = λ file is.
     let first = c.in_ok-length.ensures.reads.same ∙ is in
     let second = c.in_ok-header.ensures.same ∙ first in
     let header = c.in-Some.header in
     let has : HasHeader file header.area header.side =
     match_some ((area side : ℕ) → HasHeader file area side → ⊥) (λ (header : Header). HasHeader file header.area header.side) c.in_ok-header.field-0 header (c.in_ok-header.ensures.found file first) c.in-Some.is in
-    let length_is = c.in_ok-length.ensures.value file is in
-    let inside = c.deref.ensures.value ∙ c.in_ok-inside.ensures.bytes file second ∙ inside_is file header.area header.side c.min-size.result (omega (arith, length_is)) in
-    (holds_read file c.deref.result.now header.area header.side c.in-Ok.used c.in-Ok.records has inside c.in-Ok.ensures.read, c.in-Ok.ensures.read.4)
-
-pub returns-in-Ok-clause-bounds : goal.returns-in-Ok-clause-bounds
-returns-in-Ok-clause-bounds g c =
-    let header = c.in-Some.header in
-    let bounds = match_some (Unit {0}) (λ (header : Header). (header.side < 2) × (header.area ≤ 268435456)) c.in_ok-header.field-0 header c.in_ok-header.ensures.bounds c.in-Some.is in
-    let within = used_within c.deref.result.now c.in-Ok.used c.in-Ok.records c.in-Ok.ensures.read in
-    (bounds.0, bounds.1, omega (arith, within, ap length c.deref.ensures.value, c.in_ok-inside.ensures.bound))
-
-pub refusal-requires : goal.refusal-requires
-refusal-requires g c =
-    let header = c.in-Some.header in
-    let bounds = match_some (Unit {0}) (λ (header : Header). (header.side < 2) × (header.area ≤ 268435456)) c.in_ok-header.field-0 header c.in_ok-header.ensures.bounds c.in-Some.is in
-    let base : header.side * header.area ≤ 268435456 = grind (arith, bounds.0, bounds.1) in
-    placed_of c.in-Err.fault c.deref.result.now (32 + header.side * header.area) c.in-Err.ensures.refused (omega (arith, base, bounds.1, ap length c.deref.ensures.value, c.in_ok-inside.ensures.bound))
+    let size : c.min-size.result ≡ min (length file - base_of header.area header.side) header.area = omega (arith, c.in_ok-length.ensures.value file is) in
+    refused_found c.args.format file c.from_residual-in_err-entries.result c.in_err-entries.field-0.0 c.from_residual-in_err-entries.ensures.1
+    (cause_of c.args.format c.in_err-entries.field-0.0 file _ header.area header.side has (inside_is file header.area header.side c.min-size.result size)
+    (c.in_err-entries.ensures.refused file second (reaches_area file header.area header.side c.min-size.result size)))
 
 pub returns-clause-meaning : goal.returns-clause-meaning
 returns-clause-meaning g c = λ file is.
@@ -43,6 +29,6 @@ returns-clause-meaning g c = λ file is.
     let header = c.in-Some.header in
     let has : HasHeader file header.area header.side =
     match_some ((area side : ℕ) → HasHeader file area side → ⊥) (λ (header : Header). HasHeader file header.area header.side) c.in_ok-header.field-0 header (c.in_ok-header.ensures.found file first) c.in-Some.is in
-    let length_is = c.in_ok-length.ensures.value file is in
-    let inside = c.deref.ensures.value ∙ c.in_ok-inside.ensures.bytes file second ∙ inside_is file header.area header.side c.min-size.result (omega (arith, length_is)) in
-    subst (IsCauseOf file) (sym c.refusal.ensures) (cause_of c.in-Err.fault file c.deref.result.now header.area header.side has inside c.in-Err.ensures.refused)
+    let size : c.min-size.result ≡ min (length file - base_of header.area header.side) header.area = omega (arith, c.in_ok-length.ensures.value file is) in
+    let read = c.in_ok-entries.ensures.read file second (reaches_area file header.area header.side c.min-size.result size) in
+    (holds_read c.args.format file _ header.area header.side c.in_ok-entries.used c.in_ok-entries.entries has (inside_is file header.area header.side c.min-size.result size) read, read.4)

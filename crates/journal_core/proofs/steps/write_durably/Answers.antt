@@ -1,25 +1,17 @@
-use Rattle.std.proofs.Common.{length, arith}
-use Rattle.disk_core.specs.Disk.{Torn}
-use Rattle.disk_core.specs.PastLaws.{torn_same}
-use Rattle.disk_core.proofs.TornLaws.{torn_then}
-use Rattle.disk_core.proofs.RunLaws.{reported, started, goes_on, goes_on_same, syncs_then}
+use Rattle.std.proofs.Common.{arith}
+use Rattle.disk_core.proofs.RunLaws.{reported, syncs_then}
+use Rattle.journal_core.proofs.Writing.{one_write, durably_failed, then_sync}
 use Rattle.journal_core.proofs.steps.write_durably.Goals as goal
 
-pub returns-in_err-write_at-clause-crash : goal.returns-in_err-write_at-clause-crash
-returns-in_err-write_at-clause-crash g c =
-    let place = c.args.place in
-    let n = length c.args.piece.now in
-    goes_on _ _ _ (Torn place n) (Torn place n) (torn_then place n) (torn_same place n)
-    (started _ (Torn place n) (torn_same place n)) c.write_at.ensures.reported c.write_at.ensures.moves.crash
+pub returns-in_err-write_at-clause-writes : goal.returns-in_err-write_at-clause-writes
+returns-in_err-write_at-clause-writes g c =
+    let write = one_write _ _ _ _ _ c.write_at.ensures in
+    durably_failed _ _ _ _ _ c.from_residual.ensures.0 write.crash write.clock write.cause.later c.in_err-write_at.ensures.cause.failed
 
-pub returns-clause-crash : goal.returns-clause-crash
-returns-clause-crash g c =
-    let place = c.args.place in
-    let n = length c.args.piece.now in
-    goes_on_same _ _ _ (Torn place n)
-    (goes_on _ _ _ (Torn place n) (Torn place n) (torn_then place n) (torn_same place n)
-    (started _ (Torn place n) (torn_same place n)) c.write_at.ensures.reported c.write_at.ensures.moves.crash)
-    c.sync.ensures.reported c.sync.ensures.moves.crash
+pub returns-clause-writes : goal.returns-clause-writes
+returns-clause-writes g c =
+    let write = one_write _ _ _ _ _ c.in_ok-write_at.ensures in
+    then_sync _ _ _ _ _ c.sync.result write.puts write.crash write.clock write.cause.later c.sync.ensures
 
 pub returns-clause-syncs : goal.returns-clause-syncs
 returns-clause-syncs g c = λ last now.

@@ -1,0 +1,122 @@
+//! Compaction and migration: their bytes, their calls, and each failed call.
+use super::{bytes_of, file_of, journal_on, stamp, three};
+use crate::{CommitFault, Journal, OpenFault, Room};
+use base_core::Items;
+use disk_core::{DiskCall, FusedDisk, MemoryDisk};
+use std::alloc::Global;
+use std::test::Fail;
+
+#[test]
+fn a_compaction_writes_the_other_area_and_turns_the_side(rt: HostRuntime) -> Result<(), Fail> {
+    let alloc = rt.alloc();
+    let mut journal = journal_on(alloc, MemoryDisk::new(alloc, &[], &[])?, 256)?;
+    assert!(rt; journal.commit(stamp(1), &vec![in alloc; 7; 190]?).is_ok());
+    let before = journal.disk().calls().len();
+    assert!(rt; journal.compact(&three(alloc)?).is_ok());
+    let room = Room {
+        used: 175,
+        area: 256,
+    };
+    assert_eq!(rt; journal.room(), room);
+    assert_eq!(rt; journal.side(), 1);
+    let mut calls = Vec::new(alloc);
+    for noted in journal.disk().calls().iter().skip(before) {
+        calls.push((noted.call, noted.place, noted.bytes.get().len()))?;
+    }
+    // One write of the whole area, since it is shorter than 64 KiB.
+    assert_eq!(rt; calls.len(), 4);
+    assert_eq!(rt; calls[0], (DiskCall::WriteAt, 288, 176));
+    assert_eq!(rt; calls[1], (DiskCall::Sync, 0, 0));
+    assert_eq!(rt; calls[2], (DiskCall::WriteAt, 16, 1));
+    assert_eq!(rt; calls[3], (DiskCall::Sync, 0, 0));
+    assert!(rt; journal.compact(&Items::new(alloc)).is_ok());
+    assert_eq!(rt; journal.side(), 0);
+    let Ok((_, entries)) = Journal::open(alloc, journal.into_disk()) else {
+        return Err("not opened".into());
+    };
+    assert_eq!(rt; entries.len(), 0);
+    Ok(())
+}
+
+#[test]
+fn what_does_not_fit_is_not_compacted(rt: HostRuntime) -> Result<(), Fail> {
+    let alloc = rt.alloc();
+    let mut journal = journal_on(alloc, MemoryDisk::new(alloc, &[], &[])?, 175)?;
+    let full = CommitFault::Full {
+        used: 2,
+        asked: 174,
+    };
+    assert_eq!(rt; journal.compact(&three(alloc)?).err(), Some(full));
+    assert_eq!(rt; journal.into_disk().file().len(), 34);
+    Ok(())
+}
+
+// A file of format 1 with areas of 256 bytes and the bodies `abc` and nothing.
+fn first_file(alloc: Global) -> Result<Vec<u8>, Fail> {
+    let area = bytes_of(
+        alloc,
+        "01 01 0000000000000003 616263 01 0000000000000000 00",
+    )?;
+    file_of(alloc, 256, 0, &area)
+}
+
+#[test]
+fn a_file_of_format_1_is_migrated(rt: HostRuntime) -> Result<(), Fail> {
+    let alloc = rt.alloc();
+    let disk = MemoryDisk::new(alloc, &first_file(alloc)?, &[])?;
+    let Err((disk, fault)) = Journal::open(alloc, disk) else {
+        return Err("format 1 is opened".into());
+    };
+    assert_eq!(rt; fault, OpenFault::Version { byte: 1 });
+    let Ok((first, entries)) = Journal::open_first(alloc, disk) else {
+        return Err("not opened".into());
+    };
+    assert_eq!(rt; entries.len(), 2);
+    assert_eq!(rt; entries.item(0).body.get(), b"abc".as_slice());
+    assert_eq!(rt; entries.item(1).stamp, stamp(0));
+    let Ok(journal) = first.migrate(&three(alloc)?) else {
+        return Err("not migrated".into());
+    };
+    assert_eq!(rt; journal.side(), 1);
+    let Err((disk, fault)) = Journal::open_first(alloc, journal.into_disk()) else {
+        return Err("format 2 is read as format 1".into());
+    };
+    assert_eq!(rt; fault, OpenFault::Version { byte: 2 });
+    let Ok((_, entries)) = Journal::open(alloc, disk) else {
+        return Err("not opened".into());
+    };
+    assert_eq!(rt; entries.len(), 3);
+    Ok(())
+}
+
+// Whether a migration was done that this many calls of the disk pass, and its disk.
+fn migrated_after(alloc: Global, passes: u64) -> Result<(bool, MemoryDisk), Fail> {
+    let disk = MemoryDisk::new(alloc, &first_file(alloc)?, &[])?;
+    let fused = FusedDisk::new(disk, passes);
+    let first = match Journal::open_first(alloc, fused) {
+        Ok((first, _)) => first,
+        Err((fused, _)) => return Ok((false, fused.into_inner())),
+    };
+    match first.migrate(&three(alloc)?) {
+        Ok(journal) => Ok((true, journal.into_disk().into_inner())),
+        Err((fused, _)) => Ok((false, fused.into_inner())),
+    }
+}
+
+#[test]
+fn every_image_of_a_migration_is_one_of_two_lists(rt: HostRuntime) -> Result<(), Fail> {
+    let alloc = rt.alloc();
+    for passes in 4..9 {
+        let (done, disk) = migrated_after(alloc, passes)?;
+        assert_eq!(rt; done, passes == 8);
+        let images = disk.images()?;
+        for index in 0..images.len() {
+            let image = images.item(index).get();
+            let second = Journal::open(alloc, MemoryDisk::new(alloc, image, &[])?).is_ok();
+            let first = Journal::open_first(alloc, MemoryDisk::new(alloc, image, &[])?).is_ok();
+            assert!(rt; second != first);
+            assert!(rt; second || !done);
+        }
+    }
+    Ok(())
+}
