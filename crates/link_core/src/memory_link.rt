@@ -1,96 +1,81 @@
 //! A link over bytes in memory.
-ghost use Rattle.std.specs.Prelude.{◌≡◌, ◌≤◌, vec_len, length, min, [], Some, IfOk};
+ghost use Rattle.std.specs.Prelude.{◌≡◌, ◌≤◌, ◌+◌, ◌-◌, ◌^◌, vec_len, length, min, [], Some, IfOk};
 
-use crate::Link;
-use crate::script::{is_listed, listed_length};
+use crate::recorder::Recorder;
+use crate::script::Script;
+use crate::{Link, MemoryForm};
 use base_core::{Failed, counted};
 use std::alloc::{AllocError, Global};
 
 /// A link whose reads give the bytes that it was made with and whose writes go into a record.
 ///
-/// It reports all that it holds. A call returns `Failed` exactly when its number is on the list of calls to fail, when
-/// a listed write of a piece with bytes takes nothing, and when out of memory for the record, which `starved` counts.
+/// It reports all that it holds. A call returns `Failed` exactly when its script says so, when a write's script has it
+/// take nothing of a piece with bytes, and when out of memory for the record, which `starved` counts.
 #[derive(Drop)]
 pub struct MemoryLink {
     bytes: Vec<u8>,
     given: usize,
-    written: Vec<u8>,
     closed: bool,
-    read_lengths: Vec<usize>,
-    write_lengths: Vec<usize>,
-    failing: Vec<u64>,
-    calls: u64,
-    reads: usize,
-    writes: usize,
-    faults: u64,
-    /// How often a write ran out of memory.
-    pub starved: u64,
+    reads: Script,
+    read_faults: u64,
+    out: Recorder,
     ghost within: { given ≤ vec_len bytes },
 }
 
 impl MemoryLink {
-    ghost use Rattle.link_core.specs.Memory.{console_bytes, state_of, given_of, script_of, script, restarted, IsUnused};
+    ghost use Rattle.link_core.specs.Memory.{state_of, given_of, starved_of, reads_of, writes_of, script_of, script, IsUnused};
+    ghost use Rattle.base_core.specs.Causes.{Rose};
 
-    /// A link with these bytes to read. Its n-th read gives at most the n-th of the read lengths, and a 0 there counts
-    /// as 1; its n-th write takes at most the n-th of the write lengths; past a list's end all. The calls of the listed
-    /// numbers fail; reads and writes are numbered together, from 0.
-    pub fn new(
-        alloc: Global,
-        bytes: Vec<u8>,
-        read_lengths: Vec<usize>,
-        write_lengths: Vec<usize>,
-        failing: Vec<u64>,
-    ) -> Self
+    /// A link with these bytes to read. A read that is to give nothing gives one byte, if there is one: a read returns 0,
+    /// with room, only at the end. A write that is to take nothing of a piece with bytes fails.
+    pub fn new(alloc: Global, bytes: Vec<u8>, reads: Script, writes: Script) -> Self
         ensures unused { IsUnused bytes.items result }
-        ensures script { script_of result ≡ script read_lengths.items write_lengths.items failing.items }
+        ensures reads { reads_of result ≡ script_of reads }
+        ensures writes { writes_of result ≡ script_of writes }
     {
         MemoryLink {
             bytes,
             given: 0,
-            written: Vec::new(alloc),
             closed: false,
-            read_lengths,
-            write_lengths,
-            failing,
-            calls: 0,
-            reads: 0,
-            writes: 0,
-            faults: 0,
-            starved: 0,
+            reads,
+            read_faults: 0,
+            out: Recorder::new(alloc, writes),
         }
     }
 
     /// A link with these bytes to read, of which each call moves as much as it can and none fails.
     pub fn of(alloc: Global, bytes: &[u8]) -> Result<Self, AllocError>
         ensures unused { IfOk result (λ link. IsUnused bytes.now link) }
-        ensures script { IfOk result (λ link. script_of link ≡ script [] [] []) }
+        ensures reads { IfOk result (λ link. reads_of link ≡ script [] []) }
+        ensures writes { IfOk result (λ link. writes_of link ≡ script [] []) }
     {
-        let none = Vec::new(alloc);
         let bytes = Vec::from_slice(alloc, bytes)?;
-        Ok(MemoryLink::new(alloc, bytes, Vec::new(alloc), none, Vec::new(alloc)))
+        Ok(MemoryLink::new(alloc, bytes, Script::free(alloc), Script::free(alloc)))
     }
 
-    /// The same link before its first call.
-    pub(crate) fn afresh(mut self) -> Self
-        ensures unused { IsUnused (console_bytes self) result }
-        ensures script { script_of result ≡ restarted (script_of self) }
+    // Counts a fault of a read that never came to its script.
+    pub(crate) fn refuse(&mut self)
+        ensures state { state_of self.new ≡ record {
+          taken = (state_of self.old).taken;
+          left = (state_of self.old).left;
+          written = (state_of self.old).written;
+          closed = (state_of self.old).closed;
+          faults = (state_of self.new).faults;
+          reads = (state_of self.old).reads;
+        } }
+        ensures cause { Rose (state_of self.old).faults (state_of self.new).faults }
+        ensures reads { reads_of self.new ≡ reads_of self.old }
+        ensures writes { writes_of self.new ≡ writes_of self.old }
+        ensures starved { starved_of self.new ≡ starved_of self.old }
     {
-        self.given = 0;
-        self.written.clear();
-        self.closed = false;
-        self.calls = 0;
-        self.reads = 0;
-        self.writes = 0;
-        self.faults = 0;
-        self.starved = 0;
-        self
+        self.read_faults = counted(self.read_faults);
     }
 
     /// What was written so far.
     pub fn written(&self) -> &[u8]
         ensures { (state_of self.now).written ≡ Some result.now }
     {
-        &self.written
+        &self.out.written
     }
 
     /// How many bytes reads have given.
@@ -107,33 +92,39 @@ impl MemoryLink {
         self.closed
     }
 
-    /// How often a call has failed, for whatever cause.
+    /// How often a call has failed, for whatever cause; 2^64 - 1 if more often.
     pub fn faults(&self) -> u64
         ensures { result ≡ (state_of self.now).faults }
     {
-        self.faults
+        self.read_faults.saturating_add(self.out.faults)
+    }
+
+    /// How often a write ran out of memory.
+    pub fn starved(&self) -> u64
+        ensures { result ≡ starved_of self.now }
+    {
+        self.out.starved
     }
 }
 
 impl Link for MemoryLink {
-    ghost use Rattle.link_core.specs.Link.{ReadsBytes, WritesBytes};
-    ghost use Rattle.link_core.specs.Memory.{state_of, script_of, ReadsAsListed, WritesAsListed};
+    ghost use Rattle.link_core.specs.Link.{ReadsBytes, WritesBytes, Closes};
+    ghost use Rattle.link_core.specs.Memory.{state_of, reads_of, writes_of, starved_of, next_call, ReadsAsListed, WritesAsListed};
 
     ghost state = { state_of };
 
     fn read(&mut self, into: &mut [u8]) -> Result<usize, Failed>
         ensures link { ReadsBytes (state_of self.old) (state_of self.new) into.new result }
-        ensures listed { ReadsAsListed (script_of self.old) (min (length into.new) (state_of self.old).reads) result }
+        ensures listed { ReadsAsListed (reads_of self.old) (min (length into.new) (state_of self.old).reads) result }
+        ensures script { reads_of self.new ≡ next_call (reads_of self.old) }
+        ensures others { (writes_of self.new ≡ writes_of self.old) × (starved_of self.new ≡ starved_of self.old) }
     {
-        let listed = is_listed(&self.failing, self.calls);
-        self.calls = self.calls.saturating_add(1);
-        if listed {
-            self.faults = counted(self.faults);
-            return Err(Failed);
-        }
         let room = into.len().min(self.bytes.len() - self.given);
-        let count = room.min(listed_length(&self.read_lengths, self.reads, room).max(1));
-        self.reads = self.reads.saturating_add(1);
+        let Some(length) = self.reads.next(room) else {
+            self.read_faults = counted(self.read_faults);
+            return Err(Failed);
+        };
+        let count = room.min(length.max(1));
         let end = self.given + count;
         into[..count].copy_from_slice(&self.bytes[self.given..end]);
         self.given = end;
@@ -142,25 +133,42 @@ impl Link for MemoryLink {
 
     fn write(&mut self, piece: &[u8]) -> Result<usize, Failed>
         ensures link { WritesBytes (state_of self.old) (state_of self.new) piece.now result }
-        ensures listed { WritesAsListed (script_of self.old) piece.now self.old.starved self.new.starved result }
+        ensures listed { WritesAsListed (writes_of self.old) piece.now (starved_of self.old) (starved_of self.new)
+            result }
+        ensures script { writes_of self.new ≡ next_call (writes_of self.old) }
+        ensures others { reads_of self.new ≡ reads_of self.old }
     {
-        let listed = is_listed(&self.failing, self.calls);
-        self.calls = self.calls.saturating_add(1);
-        let count = listed_length(&self.write_lengths, self.writes, piece.len());
-        self.writes = self.writes.saturating_add(1);
-        if listed || (count == 0 && !piece.is_empty()) {
-            self.faults = counted(self.faults);
-            return Err(Failed);
-        }
-        if self.written.extend_from_slice(&piece[..count]).is_err() {
-            self.starved = counted(self.starved);
-            self.faults = counted(self.faults);
-            return Err(Failed);
-        }
-        Ok(count)
+        self.out.write(piece)
     }
 
-    fn close(&mut self) {
+    fn close(&mut self)
+        ensures link { Closes (state_of self.old) (state_of self.new) }
+        ensures reads { reads_of self.new ≡ reads_of self.old }
+        ensures writes { writes_of self.new ≡ writes_of self.old }
+    {
         self.closed = true;
+    }
+}
+
+impl MemoryForm for MemoryLink {
+    ghost use Rattle.link_core.specs.Memory.{console_bytes, scripts_of};
+
+    ghost bytes = { console_bytes };
+
+    ghost scripts = { scripts_of };
+
+    fn afresh(mut self) -> Self {
+        self.given = 0;
+        self.closed = false;
+        self.reads.restart();
+        self.read_faults = 0;
+        self.out.restart();
+        self
+    }
+
+    fn marked(mut self, reads: Vec<u64>, writes: Vec<u64>) -> Self {
+        self.reads.mark(reads);
+        self.out.script.mark(writes);
+        self
     }
 }

@@ -1,14 +1,22 @@
 //! The forms in memory, each call once with ample memory, and a listed fault of each kind.
 use super::*;
+use base_core::Bytes;
+use disk_core::Disk;
+use std::alloc::{AllocError, Global};
 use std::test::Fail;
+
+// A script with these lengths that fails these calls.
+fn script(alloc: Global, lengths: &[usize], failing: &[u64]) -> Result<Script, AllocError> {
+    let lengths = Vec::from_slice(alloc, lengths)?;
+    Ok(Script::new(alloc, lengths, Vec::from_slice(alloc, failing)?))
+}
 
 #[test]
 fn a_link_gives_its_bytes_in_the_listed_lengths(rt: HostRuntime) -> Result<(), Fail> {
     let alloc = rt.alloc();
     let bytes = Vec::from_slice(alloc, b"hello")?;
-    let lengths = Vec::from_slice(alloc, &[2, 0])?;
-    let failing = Vec::from_slice(alloc, &[1])?;
-    let mut link = MemoryLink::new(alloc, bytes, lengths, Vec::new(alloc), failing);
+    let reads = script(alloc, &[2, 9, 0], &[2])?;
+    let mut link = MemoryLink::new(alloc, bytes, reads, Script::free(alloc));
     let mut buffer = [0; 8];
     assert_eq!(rt; link.read(&mut buffer), Ok(2));
     assert_eq!(rt; link.read(&mut buffer), Err(Failed));
@@ -25,52 +33,144 @@ fn a_link_gives_its_bytes_in_the_listed_lengths(rt: HostRuntime) -> Result<(), F
 }
 
 #[test]
-fn a_link_takes_writes_in_the_listed_lengths(rt: HostRuntime) -> Result<(), Fail> {
+fn what_is_written_is_kept_in_the_listed_lengths(rt: HostRuntime) -> Result<(), Fail> {
     let alloc = rt.alloc();
-    let lengths = Vec::from_slice(alloc, &[1, 0])?;
     let empty = Vec::new(alloc);
-    let mut link = MemoryLink::new(alloc, empty, Vec::new(alloc), lengths, Vec::new(alloc));
+    let mut link = MemoryLink::new(
+        alloc,
+        empty,
+        Script::free(alloc),
+        script(alloc, &[1, 0], &[])?,
+    );
     assert_eq!(rt; link.write(b"abc"), Ok(1));
     assert_eq!(rt; link.write(b"bc"), Err(Failed));
     assert_eq!(rt; link.write(b"bc"), Ok(2));
     assert_eq!(rt; link.written(), b"abc".as_slice());
-    assert_eq!(rt; (link.faults(), link.starved), (1, 0));
-    Ok(())
-}
-
-#[test]
-fn a_sink_keeps_what_is_written(rt: HostRuntime) -> Result<(), Fail> {
-    let alloc = rt.alloc();
-    let lengths = Vec::from_slice(alloc, &[2])?;
-    let failing = Vec::from_slice(alloc, &[1])?;
-    let mut sink = MemorySink::new(alloc, lengths, failing);
+    assert_eq!(rt; (link.faults(), link.starved()), (1, 0));
+    let mut sink = MemorySink::new(alloc, script(alloc, &[2], &[2])?);
     assert_eq!(rt; sink.write(b"abc"), Ok(2));
     assert_eq!(rt; sink.write(b"c"), Err(Failed));
     assert_eq!(rt; sink.write(b"c"), Ok(1));
     assert_eq!(rt; sink.written(), b"abc".as_slice());
-    assert_eq!(rt; (sink.faults(), sink.starved), (1, 0));
+    assert_eq!(rt; (sink.faults(), sink.starved()), (1, 0));
     Ok(())
 }
 
 #[test]
-fn a_host_hands_out_its_links_in_order(rt: HostRuntime) -> Result<(), Fail> {
+fn a_clock_gives_its_times_and_then_the_last_again(rt: HostRuntime) -> Result<(), Fail> {
     let alloc = rt.alloc();
-    let failing = Vec::from_slice(alloc, &[0])?;
-    let mut host = MemoryHost::new(alloc, failing);
-    host.add_console(MemoryLink::of(alloc, b"one")?)?;
-    host.add_console(MemoryLink::of(alloc, b"two")?)?;
-    assert!(rt; host.console().is_err());
+    let mut clock = MemoryClock::new(Vec::from_slice(alloc, &[7, 5])?);
+    assert_eq!(rt; (clock.now(), clock.now(), clock.now()), (7, 5, 5));
+    let mut zero = MemoryClock::zero(alloc);
+    assert_eq!(rt; (zero.now(), zero.now()), (0, 0));
+    Ok(())
+}
+
+#[test]
+fn a_listener_accepts_its_links_in_order(rt: HostRuntime) -> Result<(), Fail> {
+    let alloc = rt.alloc();
+    let mut listener = MemoryListener::new(alloc, Vec::from_slice(alloc, &[2])?);
+    for text in [b"one".as_slice(), b"two".as_slice()] {
+        listener.add(MemoryLink::of(alloc, text)?)?;
+    }
     let mut buffer = [0; 3];
     for text in [b"one".as_slice(), b"two".as_slice()] {
-        match host.console() {
-            Ok(mut link) => {
+        match listener.accept() {
+            Ok(Some(mut link)) => {
                 assert_eq!(rt; link.read(&mut buffer), Ok(3));
                 assert_eq!(rt; buffer.as_slice(), text);
             }
-            Err(_) => return Err(Fail::from("no link")),
+            _ => return Err(Fail::from("no link")),
+        }
+        if text == b"one".as_slice() {
+            assert!(rt; listener.accept().is_err());
         }
     }
-    assert!(rt; host.console().is_err());
-    assert_eq!(rt; (host.console_calls(), host.faults()), (4, 2));
+    assert!(rt; matches!(listener.accept(), Ok(None)));
+    Ok(())
+}
+
+// What a link gives at its first read.
+fn first_read<L: Link>(link: &mut L) -> Result<u8, Failed> {
+    let mut buffer = [0; 1];
+    link.read(&mut buffer)?;
+    Ok(buffer[0])
+}
+
+#[test]
+fn a_host_hands_out_what_it_was_given(rt: HostRuntime) -> Result<(), Fail> {
+    let alloc = rt.alloc();
+    let mut host: MemoryHost<MemoryLink> = MemoryHost::new(alloc);
+    host.add_console(MemoryLink::of(alloc, b"c")?)?;
+    host.add_peer(MemoryLink::of(alloc, b"p")?)?;
+    let mut listener = MemoryListener::new(alloc, Vec::new(alloc));
+    listener.add(MemoryLink::of(alloc, b"l")?)?;
+    host.add_listener(listener)?;
+    host.add_file("store", Bytes::of(alloc, b"bytes")?)?;
+    host.set_times(Vec::from_slice(alloc, &[9])?);
+    for (kind, nth) in [
+        (CallKind::Console, 1),
+        (CallKind::Dial, 1),
+        (CallKind::Listen, 1),
+        (CallKind::DiskOpen, 2),
+        (CallKind::File, 3),
+        (CallKind::Read, 2),
+        (CallKind::Accept, 1),
+        (CallKind::Length, 1),
+    ] {
+        host.fail(kind, nth)?;
+    }
+    assert!(rt;
+        host.console().is_err() && host.dial("a", 1).is_err() && host.listen("a", 1).is_err()
+    );
+    if let Ok(mut link) = host.console() {
+        assert_eq!(rt;
+            (first_read(&mut link), first_read(&mut link)),
+            (Ok(b'c'), Err(Failed))
+        );
+    }
+    if let Ok(mut link) = host.dial("a", 1) {
+        assert_eq!(rt; (first_read(&mut link), link.faults()), (Ok(b'p'), 0));
+    }
+    if let Ok(mut listener) = host.listen("a", 1) {
+        assert!(rt; listener.accept().is_err() && matches!(listener.accept(), Ok(Some(_))));
+    }
+    assert_eq!(rt;
+        (
+            host.file("store", 3).map(|copy| copy.get().len()),
+            host.file("none", 3).is_err()
+        ),
+        (Ok(3), true)
+    );
+    if let Ok(mut disk) = host.disk("store") {
+        assert_eq!(rt; (disk.length(), disk.length()), (Err(Failed), Ok(5)));
+    }
+    assert!(rt; host.disk("store").is_err() && host.file("store", 9).is_err());
+    assert!(rt; host.disk("new").is_ok());
+    assert_eq!(rt; (host.clock().now(), host.clock().now()), (9, 0));
+    assert_eq!(rt; (host.console_calls(), host.faults()), (2, 6));
+    Ok(())
+}
+
+#[test]
+fn a_held_read_waits_for_the_other_link(rt: HostRuntime) -> Result<(), Fail> {
+    let alloc = rt.alloc();
+    let (mut held, mut other) = GateLink::pair(
+        alloc,
+        MemoryLink::of(alloc, b"h")?,
+        MemoryLink::of(alloc, b"o")?,
+    )?;
+    assert_eq!(rt; first_read(&mut held), Err(Failed));
+    assert_eq!(rt; (held.turns(), held.link().faults()), (10_000_000, 1));
+    assert_eq!(rt; first_read(&mut other), Ok(b'o'));
+    assert_eq!(rt; other.write(b"x"), Ok(1));
+    assert_eq!(rt;
+        (first_read(&mut held), held.turns()),
+        (Ok(b'h'), 10_000_000)
+    );
+    let mut plain = GateLink::plain(MemoryLink::of(alloc, b"p")?).afresh();
+    assert_eq!(rt; first_read(&mut plain), Ok(b'p'));
+    plain.close();
+    assert!(rt; plain.link().is_closed());
     Ok(())
 }

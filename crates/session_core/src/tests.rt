@@ -6,7 +6,7 @@ use super::*;
 use doip_message::FRAMING_TEXT;
 use doip_segment::{Decoder, Limits, Reason};
 use echo::Echo;
-use link_core::{Link, MemoryLink};
+use link_core::{Link, MemoryLink, Script};
 use patient::Patient;
 use std::alloc::{AllocError, Global};
 use std::test::Fail;
@@ -27,7 +27,8 @@ fn messages_come_in_order_whatever_the_reads_give(rt: HostRuntime) -> Result<(),
             lengths.push(length)?;
         }
         let bytes = Vec::from_slice(alloc, TWO)?;
-        let mut link = MemoryLink::new(alloc, bytes, lengths, Vec::new(alloc), Vec::new(alloc));
+        let reads = Script::new(alloc, lengths, Vec::new(alloc));
+        let mut link = MemoryLink::new(alloc, bytes, reads, Script::free(alloc));
         let mut reader = Reader::new(alloc)?;
         let mut decoder = Decoder::new(alloc, LIMITS)?;
         assert_eq!(rt; reader.next(&mut link, &mut decoder), Next::Message);
@@ -64,9 +65,8 @@ fn a_session_ends_cut_framing_or_by_a_fault(rt: HostRuntime) -> Result<(), Fail>
     assert_eq!(rt; reader.next(&mut broken, &mut decoder), fault);
     reader.restart();
     decoder.restart();
-    let failing = Vec::from_slice(alloc, &[0])?;
-    let empty = Vec::new(alloc);
-    let mut failed = MemoryLink::new(alloc, empty, Vec::new(alloc), Vec::new(alloc), failing);
+    let reads = Script::failing(alloc, Vec::from_slice(alloc, &[1])?);
+    let mut failed = MemoryLink::new(alloc, Vec::new(alloc), reads, Script::free(alloc));
     assert_eq!(rt; reader.next(&mut failed, &mut decoder), Next::ReadFault);
     Ok(())
 }
@@ -75,9 +75,9 @@ fn a_session_ends_cut_framing_or_by_a_fault(rt: HostRuntime) -> Result<(), Fail>
 fn all_is_written_one_byte_at_a_time(rt: HostRuntime) -> Result<(), Fail> {
     let alloc = rt.alloc();
     let lengths = Vec::from_slice(alloc, &[1, 1, 1, 1, 1])?;
-    let failing = Vec::from_slice(alloc, &[7])?;
-    let empty = Vec::new(alloc);
-    let mut link = MemoryLink::new(alloc, empty, Vec::new(alloc), lengths, failing);
+    let failing = Vec::from_slice(alloc, &[8])?;
+    let writes = Script::new(alloc, lengths, failing);
+    let mut link = MemoryLink::new(alloc, Vec::new(alloc), Script::free(alloc), writes);
     assert_eq!(rt; say(&mut link, b"hello!"), Ok(()));
     assert_eq!(rt; link.written(), b"hello!".as_slice());
     assert_eq!(rt; say(&mut link, b""), Ok(()));
@@ -96,20 +96,31 @@ fn served<L: Link>(alloc: Global, link: &mut L) -> Result<SessionEnd, AllocError
     Ok(end)
 }
 
-// A link with these bytes, of which the first read gives at most as many, and whose call of this number fails.
+// The call of a link that fails, by its number among those of its kind, from 1.
+#[derive(Clone, Copy)]
+enum Fails {
+    Nothing,
+    Read(u64),
+    Write(u64),
+}
+
+// A link with these bytes, of which the first read gives at most as many.
 fn link_with(
     alloc: Global,
     bytes: &[u8],
     cut: usize,
-    failing: Option<u64>,
+    fails: Fails,
 ) -> Result<MemoryLink, AllocError> {
-    let mut calls = Vec::new(alloc);
-    if let Some(number) = failing {
-        calls.push(number)?;
+    let mut reads = Vec::new(alloc);
+    let mut writes = Vec::new(alloc);
+    match fails {
+        Fails::Nothing => {}
+        Fails::Read(number) => reads.push(number)?,
+        Fails::Write(number) => writes.push(number)?,
     }
     let bytes = Vec::from_slice(alloc, bytes)?;
-    let lengths = Vec::from_slice(alloc, &[cut])?;
-    Ok(MemoryLink::new(alloc, bytes, lengths, Vec::new(alloc), calls))
+    let reads = Script::new(alloc, Vec::from_slice(alloc, &[cut])?, reads);
+    Ok(MemoryLink::new(alloc, bytes, reads, Script::failing(alloc, writes)))
 }
 
 // Three sessions: their bytes, what is written, and how they end.
@@ -146,7 +157,7 @@ fn a_cut_between_two_reads_changes_nothing(rt: HostRuntime) -> Result<(), Fail> 
     for number in 0..3 {
         let (bytes, texts, end) = row(number);
         for cut in 0..bytes.len() {
-            let mut link = link_with(alloc, bytes, cut, None)?;
+            let mut link = link_with(alloc, bytes, cut, Fails::Nothing)?;
             assert_eq!(rt; served(alloc, &mut link)?, end, "row {number} at {cut}");
             let expected = joined(alloc, texts)?;
             assert_eq!(rt;
@@ -167,8 +178,13 @@ fn a_failing_call_ends_a_session_with_its_fault(rt: HostRuntime) -> Result<(), F
         let (bytes, texts, end) = row(number);
         let expected = joined(alloc, texts)?;
         for cut in 1..bytes.len() {
-            for call in 0..7 {
-                let mut link = link_with(alloc, bytes, cut, Some(call))?;
+            for call in 0..8 {
+                let fails = if call < 4 {
+                    Fails::Read(call + 1)
+                } else {
+                    Fails::Write(call - 3)
+                };
+                let mut link = link_with(alloc, bytes, cut, fails)?;
                 let ended = served(alloc, &mut link)?;
                 let failed = ended == SessionEnd::ReadFault || ended == SessionEnd::WriteFault;
                 assert_eq!(rt;
@@ -195,15 +211,19 @@ fn a_failing_call_ends_a_session_with_its_fault(rt: HostRuntime) -> Result<(), F
 fn a_failing_read_and_a_failing_write_have_ends_of_their_own(rt: HostRuntime) -> Result<(), Fail> {
     let alloc = rt.alloc();
     // All of `TWO` comes by the first read: then two replies are written, and a read finds the end.
-    let ends = [
-        SessionEnd::ReadFault,
-        SessionEnd::WriteFault,
-        SessionEnd::WriteFault,
-        SessionEnd::ReadFault,
-    ];
-    for (call, end) in ends.into_iter().enumerate() {
-        let mut link = link_with(alloc, TWO, TWO.len(), Some(call as u64))?;
-        assert_eq!(rt; served(alloc, &mut link)?, end, "call {call}");
+    for number in 1..3 {
+        let mut link = link_with(alloc, TWO, TWO.len(), Fails::Read(number))?;
+        assert_eq!(rt;
+            served(alloc, &mut link)?,
+            SessionEnd::ReadFault,
+            "read {number}"
+        );
+        let mut link = link_with(alloc, TWO, TWO.len(), Fails::Write(number))?;
+        assert_eq!(rt;
+            served(alloc, &mut link)?,
+            SessionEnd::WriteFault,
+            "write {number}"
+        );
     }
     Ok(())
 }
@@ -211,10 +231,10 @@ fn a_failing_read_and_a_failing_write_have_ends_of_their_own(rt: HostRuntime) ->
 #[test]
 fn a_write_that_fails_first_leaves_nothing_written(rt: HostRuntime) -> Result<(), Fail> {
     let alloc = rt.alloc();
-    let mut link = link_with(alloc, TWO, TWO.len(), Some(1))?;
+    let mut link = link_with(alloc, TWO, TWO.len(), Fails::Write(1))?;
     assert_eq!(rt; served(alloc, &mut link)?, SessionEnd::WriteFault);
     assert_eq!(rt; link.written(), b"".as_slice());
-    let mut broken = link_with(alloc, b"#x", 2, Some(1))?;
+    let mut broken = link_with(alloc, b"#x", 2, Fails::Write(1))?;
     assert_eq!(rt; served(alloc, &mut broken)?, SessionEnd::WriteFault);
     Ok(())
 }

@@ -12,7 +12,7 @@ returns-clause-link c =
     let rest = drop count c.args.into.now in
     let enough : count ≤ length (drop given bytes) = omega (arith, length-drop given bytes) in
     let next : IsNext given count bytes copied =
-    next_range _ _ _ _ _ c.copy_from_slice.ensures.after c.deref-3.ensures.value enough in
+    next_range _ _ _ _ _ c.copy_from_slice.ensures.after c.deref.ensures.value enough in
     record {
       bound = search rules;
       taken = given_grows given count bytes copied rest next;
