@@ -3,7 +3,7 @@ use Rattle.std.specs.Prelude.{◌≡◌, ◌+◌, ◌⊎◌, ℕ, min, List, [],
 use Rattle.std.specs.Option.{ForSome}
 use Rattle.link_core.specs.Link.{LinkState}
 use Rattle.base_core.specs.Causes.{Rose, Counts}
-use Rattle.link_core.specs.Host.{IsFresh, IsNew}
+use Rattle.link_core.specs.Host.{IsFresh, IsNew, CallCounts, Holdings}
 use Rattle.doip_segment.specs.declared.outcome.Limits.{Limits}
 use Rattle.session_core.specs.declared.end.SessionEnd.{SessionEnd}
 use Rattle.session_core.specs.declared.end.SessionEnd.TheVariants.{Ended, Cut, Framing, ReadFault, WriteFault}
@@ -56,9 +56,9 @@ abbrev pub BeginsFresh : {T : Type 0} → (T → LinkState) → Option T → Typ
 BeginsFresh state begun = ForSome begun (λ link. IsFresh (state link))
 
 -- A host that reports what its links hold hands out the first of them.
-abbrev pub BeginsWithFirst : {T : Type 0} → (T → LinkState) → Option (List (List ℕ)) → Option T → Type 0
-BeginsWithFirst state consoles begun = (input : List ℕ) (others : List (List ℕ)) → consoles ≡ Some (input ∷ others)
-    → ForSome begun (λ link. IsNew input (state link))
+abbrev pub BeginsWithFirst : {T : Type 0} → (T → LinkState) → Option Holdings → Option T → Type 0
+BeginsWithFirst state holds begun = (h : Holdings) (input : List ℕ) (others : List (List ℕ)) → holds ≡ Some h
+    → h.consoles ≡ input ∷ others → ForSome begun (λ link. IsNew input (state link))
 
 -- a link or nothing, as the host's count of links says
 abbrev pub LinkCounted : {T : Type 0} → ℕ → ℕ → Option T → Type 0
@@ -68,6 +68,13 @@ LinkCounted before now None = now ≡ before
 -- `console` was called once at most
 abbrev pub CalledOnce : ℕ → ℕ → Type 0
 CalledOnce before now = (now ≡ before) ⊎ Counts before now
+
+-- no other call of the host was made
+pub record CallsNoOther (before now : CallCounts) : Type 0 where
+  pub disk : now.disk ≡ before.disk
+  pub listen : now.listen ≡ before.listen
+  pub dial : now.dial ≡ before.dial
+  pub file : now.file ≡ before.file
 
 -- the status of a session's end
 abbrev pub status_at : SessionEnd → ℕ

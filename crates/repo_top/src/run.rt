@@ -7,7 +7,7 @@ ghost use Rattle.repo_top.specs.Command.{AreArgumentsOf, IsCommand, IsService, p
 ghost use Rattle.repo_top.specs.Taking.{command_in};
 ghost use Rattle.repo_step.specs.History.{session_pairs};
 ghost use Rattle.repo_top.specs.Session.{IsPast, first_state};
-ghost use Rattle.repo_top.specs.Run.{IsRunOf, IsSetUp, IsServed, BeginsFresh, BeginsWithFirst, LinkCounted, CalledOnce, IsExit, IsInvalidExit, exit, CountsNoFault, status_at, note_at};
+ghost use Rattle.repo_top.specs.Run.{IsRunOf, IsSetUp, IsServed, BeginsFresh, BeginsWithFirst, LinkCounted, CalledOnce, CallsNoOther, IsExit, IsInvalidExit, exit, CountsNoFault, status_at, note_at};
 
 use crate::alone::Alone;
 use crate::command::{AnswerArguments, command_of, prefix_of};
@@ -161,7 +161,7 @@ where
     ensures session { IsRunOf H.Link.state words.now result.past (option_map (λ s. s.value) result.begun) result.link
         result.end }
     ensures fresh { BeginsFresh H.Link.state (option_map (λ s. s.value) result.begun) }
-    ensures first { BeginsWithFirst H.Link.state (H.state host.old).consoles (option_map (λ s. s.value) result.begun) }
+    ensures first { BeginsWithFirst H.Link.state (H.state host.old).holds (option_map (λ s. s.value) result.begun) }
 
     // Each status has its cause, and if no fault was counted a command has status 0, or 4 when out of memory.
     ensures status { IsCommand words.now → IsExit H.Link.state (H.state host.old).faults (H.state host.new).faults
@@ -171,8 +171,9 @@ where
         → CountsNoFault H.Link.state result.link → (result.status ≡ 0) ⊎ (result.status ≡ 4) }
 
     // `console` is called once at most, and what it handed out is returned.
-    ensures link { LinkCounted (H.state host.old).links (H.state host.new).links result.link }
-    ensures calls { CalledOnce (H.state host.old).console_calls (H.state host.new).console_calls }
+    ensures link { LinkCounted (H.state host.old).handed.links (H.state host.new).handed.links result.link }
+    ensures calls { CalledOnce (H.state host.old).calls.console (H.state host.new).calls.console }
+    ensures others { CallsNoOther (H.state host.old).calls (H.state host.new).calls }
     ensures untouched { ¬ IsCommand words.now → host.new ≡ host.old }
 {
     let Some(command) = command_of(words) else {

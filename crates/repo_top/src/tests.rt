@@ -2,7 +2,7 @@
 use super::*;
 use doip_json::Str;
 use doip_segment::Reason;
-use link_core::{MemoryHost, MemoryLink};
+use link_core::{MemoryHost, MemoryLink, Script};
 use std::alloc::{AllocError, Global};
 use std::test::Fail;
 
@@ -35,7 +35,7 @@ fn joined(alloc: Global, texts: &[&[u8]]) -> Result<Vec<u8>, AllocError> {
 
 // IsRunOf a command over a host with one link.
 fn run(alloc: Global, texts: &[&str], link: MemoryLink) -> Result<Ran<MemoryHost>, Fail> {
-    let mut host = MemoryHost::new(alloc, Vec::new(alloc));
+    let mut host = MemoryHost::new(alloc);
     host.add_console(link)?;
     let words = arguments(alloc, texts)?;
     Ok(run_plain(alloc, &words, &mut host))
@@ -113,7 +113,8 @@ fn hello_has_its_reply_in_any_pieces(rt: HostRuntime) -> Result<(), Fail> {
             }
         }
         let bytes = Vec::from_slice(alloc, HELLO)?;
-        let link = MemoryLink::new(alloc, bytes, lengths, Vec::new(alloc), Vec::new(alloc));
+        let reads = Script::new(alloc, lengths, Vec::new(alloc));
+        let link = MemoryLink::new(alloc, bytes, reads, Script::free(alloc));
         let ran = run(alloc, &["answer", "35.TEST/svc"], link)?;
         assert_eq!(rt; written(&ran), DONE, "at {length}");
         assert_eq!(rt; ran.status, 0);
@@ -123,7 +124,8 @@ fn hello_has_its_reply_in_any_pieces(rt: HostRuntime) -> Result<(), Fail> {
         ones.push(1)?;
     }
     let bytes = Vec::from_slice(alloc, HELLO)?;
-    let slow = MemoryLink::new(alloc, bytes, Vec::new(alloc), ones, Vec::new(alloc));
+    let writes = Script::new(alloc, ones, Vec::new(alloc));
+    let slow = MemoryLink::new(alloc, bytes, Script::free(alloc), writes);
     assert_eq!(rt;
         written(&run(alloc, &["answer", "35.TEST/svc"], slow)?),
         DONE
@@ -172,8 +174,14 @@ fn each_failed_call_ends_the_session(rt: HostRuntime) -> Result<(), Fail> {
     let alloc = rt.alloc();
     for call in 0..4 {
         let bytes = joined(alloc, &[HELLO, b"#x"])?;
-        let failing = Vec::from_slice(alloc, &[call])?;
-        let link = MemoryLink::new(alloc, bytes, Vec::new(alloc), Vec::new(alloc), failing);
+        let mut reads = Script::free(alloc);
+        let mut writes = Script::free(alloc);
+        match call {
+            0 => reads = Script::failing(alloc, Vec::from_slice(alloc, &[1])?),
+            1 | 2 => writes = Script::failing(alloc, Vec::from_slice(alloc, &[call])?),
+            _ => {}
+        }
+        let link = MemoryLink::new(alloc, bytes, reads, writes);
         let ran = run(alloc, &["answer", "35.TEST/svc"], link)?;
         let framing = SessionEnd::Framing {
             place: HELLO.len() as u64 + 2,
@@ -194,7 +202,7 @@ fn each_failed_call_ends_the_session(rt: HostRuntime) -> Result<(), Fail> {
 #[test]
 fn two_sessions_run_one_after_another(rt: HostRuntime) -> Result<(), Fail> {
     let alloc = rt.alloc();
-    let mut host = MemoryHost::new(alloc, Vec::new(alloc));
+    let mut host = MemoryHost::new(alloc);
     host.add_console(MemoryLink::of(alloc, HELLO)?)?;
     host.add_console(MemoryLink::of(alloc, HELLO)?)?;
     let words = arguments(alloc, &["answer", "35.TEST/svc"])?;
