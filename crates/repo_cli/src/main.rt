@@ -5,9 +5,16 @@
 ghost use Rattle.std.specs.Prelude.{◌≡◌, ◌≢◌};
 ghost use Rattle.std.specs.IoError.{error_kind};
 
-mod console;
+mod clock;
+mod disk;
+mod faults;
 mod host;
+mod link;
+mod listener;
 mod note;
+mod sink;
+#[cfg(test)]
+mod tests;
 
 use crate::host::RealHost;
 use crate::note::{file_name, line_of};
@@ -39,9 +46,9 @@ fn read_invocation(rt: &HostRuntime, alloc: Global) -> io::Result<Invocation> {
     Ok(Invocation { path, arguments })
 }
 
-// Prints the line of a note. If that fails there is nobody to report it to.
-fn print_note(rt: &HostRuntime, program: &str, note: Note) {
-    if let Some(line) = line_of(program, note) {
+// Prints the line of a note, with what the system said. If that fails there is nobody to report it to.
+fn print_note(rt: &HostRuntime, program: &str, note: Note, cause: Option<&io::Error>) {
+    if let Some(line) = line_of(program, note, cause) {
         let _ = eprintln!(rt; "{line}");
     }
 }
@@ -64,12 +71,17 @@ fn main(rt: HostRuntime) -> ExitCode {
         Ok(invocation) => invocation,
         Err(error) => {
             let (status, note) = status_without_arguments(&error);
-            print_note(&rt, "zenkawi", note);
+            print_note(&rt, "zenkawi", note, None);
             return ExitCode::from(status);
         }
     };
-    let mut host = RealHost::new(rt.stdin(), rt.stdout());
+    let mut host = RealHost::new(&rt, alloc, rt.stdin(), rt.stdout());
     let ran = run_plain(alloc, &invocation.arguments, &mut host);
-    print_note(&rt, file_name(invocation.path.get()), ran.note);
+    let cause = match (ran.note, &ran.link) {
+        (Note::Host, _) => host.last_fault(),
+        (Note::End(_), Some(link)) => link.last_fault(),
+        _ => None,
+    };
+    print_note(&rt, file_name(invocation.path.get()), ran.note, cause);
     ExitCode::from(ran.status)
 }

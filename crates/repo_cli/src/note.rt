@@ -2,19 +2,26 @@
 use doip_segment::Reason;
 use repo_top::{Note, SessionEnd};
 use std::fmt;
+use std::io::Error;
 
-/// The line of a note: the name of the program's file, what happened and, where there is something, what to do.
-#[derive(Clone, Copy, Debug)]
+/// The line of a note: the name of the program's file, what happened, where there is something what to do, and what the
+/// system said of the fault behind it.
+#[derive(Clone, Copy)]
 pub struct Line<'a> {
     program: &'a str,
     note: Note,
+    cause: Option<&'a Error>,
 }
 
 /// The line of a note, `None` when there is nothing to note.
-pub fn line_of(program: &str, note: Note) -> Option<Line<'_>> {
+pub fn line_of<'a>(program: &'a str, note: Note, cause: Option<&'a Error>) -> Option<Line<'a>> {
     match note {
         Note::Nothing => None,
-        note => Some(Line { program, note }),
+        note => Some(Line {
+            program,
+            note,
+            cause,
+        }),
     }
 }
 
@@ -60,6 +67,17 @@ fn write_end<W: fmt::Write>(end: SessionEnd, f: &mut fmt::Formatter<W>) -> fmt::
 impl fmt::Display for Line<'_> {
     fn fmt<W: fmt::Write>(&self, f: &mut fmt::Formatter<W>) -> fmt::Result {
         write!(f, "{}: ", self.program)?;
+        self.write_note(f)?;
+        match self.cause {
+            Some(cause) => write!(f, ": {cause}"),
+            None => Ok(()),
+        }
+    }
+}
+
+impl Line<'_> {
+    // What happened, and what to do.
+    fn write_note<W: fmt::Write>(&self, f: &mut fmt::Formatter<W>) -> fmt::Result {
         match self.note {
             Note::Nothing => Ok(()),
             Note::Words => write!(

@@ -1,0 +1,70 @@
+//! The faults of an object of the outside, and calls that a signal interrupted.
+ghost use Rattle.std.specs.Prelude.{◌≡◌, ◌≤◌};
+ghost use Rattle.std.specs.Io.{ReadsAtMost, WritesAtMost};
+ghost use Rattle.base_core.specs.Causes.{Counts};
+ghost use Rattle.link_core.specs.Link.{Takes as TakesSome};
+
+use base_core::{Failed, counted};
+use std::io::{Error, ErrorKind, Read, Result as IoResult, Write};
+
+/// How often the calls of an object have failed, and what the system said of the last fault.
+#[derive(Drop)]
+pub struct Faults {
+    count: u64,
+    last: Option<Error>,
+}
+
+impl Faults {
+    ghost use Rattle.repo_cli.specs.Real.{count_of};
+
+    /// No fault so far.
+    pub fn new() -> Faults
+        ensures { count_of result ≡ 0 }
+    {
+        Faults {
+            count: 0,
+            last: None,
+        }
+    }
+
+    /// Counts a fault of which the system says this.
+    pub fn count(&mut self, error: Error) -> Failed
+        ensures { Counts (count_of self.old) (count_of self.new) }
+    {
+        self.count = counted(self.count);
+        self.last = Some(error);
+        Failed
+    }
+
+    /// What the system said of the last fault.
+    pub fn last(&self) -> Option<&Error> {
+        self.last.as_ref()
+    }
+}
+
+/// Reads once, and again where a signal interrupted.
+pub fn read_again<R: Read>(source: &mut R, into: &mut [u8]) -> IoResult<usize>
+    ensures { ReadsAtMost result into.new }
+{
+    for _ in 0..u64::MAX {
+        match source.read(into) {
+            Err(error) if error.kind() == ErrorKind::Interrupted => {}
+            other => return other,
+        }
+    }
+    Err(Error::from(ErrorKind::Interrupted))
+}
+
+/// Writes once, and again where a signal interrupted. Taking nothing of a piece with bytes is an error.
+pub fn write_again<W: Write>(sink: &mut W, piece: &[u8]) -> IoResult<usize>
+    ensures { TakesSome piece.now result }
+{
+    for _ in 0..u64::MAX {
+        match sink.write(piece) {
+            Ok(0) if !piece.is_empty() => return Err(Error::from(ErrorKind::WriteZero)),
+            Err(error) if error.kind() == ErrorKind::Interrupted => {}
+            other => return other,
+        }
+    }
+    Err(Error::from(ErrorKind::Interrupted))
+}
