@@ -1,1 +1,8 @@
 pub mod Name
+pub mod Elements
+pub mod Shown
+pub mod Object
+pub mod Parts
+pub mod Draft
+pub mod Lengths
+pub mod Waiting

@@ -1,0 +1,5 @@
+pub mod Utf8
+pub mod LetterLemmas
+pub mod PointerLemmas
+pub mod WordLemmas
+pub mod ReachLemmas

@@ -1,0 +1,5 @@
+pub mod Breaks
+pub mod Field
+pub mod Letters
+pub mod Reach
+pub mod Scalar

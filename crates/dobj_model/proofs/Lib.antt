@@ -1,0 +1,9 @@
+pub mod Depths
+pub mod Totals
+pub mod Texts
+pub mod Forms
+pub mod Distinct
+pub mod Between
+pub mod Written
+pub mod Drafts
+pub mod Pairs

@@ -1,0 +1,10 @@
+use Rattle.std.proofs.Common.{codes, refl, sym, subst}
+use Rattle.doip_json.specs.Value.{entries_from}
+use Rattle.doip_json.specs.Sound.{EntriesAreSound}
+use Rattle.dobj_model.specs.Shown.{object_with, optional}
+use Rattle.dobj_model.proofs.Forms.{letters}
+use Rattle.dobj_model.proofs.measure.attributes_entry_length.Goals as goal
+
+pub returns-in-Some-clause-sound : goal.returns-in-Some-clause-sound
+returns-in-Some-clause-sound c =
+    subst (λ o. EntriesAreSound (entries_from (optional (codes "attributes") object_with o))) (sym c.in-Some.is) (letters _ refl, c.map_length.ensures.sound, tt)
