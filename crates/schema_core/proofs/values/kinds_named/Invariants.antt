@@ -1,0 +1,8 @@
+use Rattle.std.proofs.Common.{◌≡◌, ◌++◌, option_map}
+use Rattle.doip_json.specs.Value.{values_from}
+use Rattle.schema_core.specs.Shapes.{all_in, kind_in}
+use Rattle.schema_core.proofs.ShapeLemmas.{rest_in}
+use Rattle.schema_core.proofs.values.kinds_named.Given as goal
+
+abbrev pub invariant-loop-i : goal.invariant-loop-i
+invariant-loop-i l = all_in kind_in (values_from l.items) ≡ option_map (λ more. l.kinds ++ more) (rest_in kind_in l.items l.i)

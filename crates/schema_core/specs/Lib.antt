@@ -1,0 +1,10 @@
+pub mod Rules
+pub mod Names
+pub mod Failing
+pub mod First
+pub mod Shapes
+pub mod Reading
+pub mod References
+pub mod Stored
+pub mod Kept
+pub mod Falls
