@@ -1,0 +1,6 @@
+pub mod Known
+pub mod Table
+pub mod File
+pub mod Caller
+pub mod Rights
+pub mod Example
