@@ -1,0 +1,5 @@
+pub mod OrderLemmas
+pub mod PageLemmas
+pub mod PartLemmas
+pub mod FieldLemmas
+pub mod SortingLemmas

@@ -1,0 +1,4 @@
+pub mod Parts
+pub mod Sorting
+pub mod Order
+pub mod Page

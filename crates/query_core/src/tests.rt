@@ -1,0 +1,137 @@
+//! Orders and pages, on a few objects.
+use crate::hits::{Hits, page};
+use crate::order::Order;
+use crate::sorting::{OrderFault, order_of};
+use dobj_model::{Elements, Id, Metadata, Object, ObjectValue, TypeName};
+use doip_json::{JsonMap, Str, read};
+use std::alloc::Global;
+use std::test::Fail;
+
+// An object with this content, which no object without one has.
+fn object(alloc: Global, id: &str, content: &str) -> Result<Object, Fail> {
+    let mut attributes = JsonMap::empty(alloc);
+    attributes.put(
+        Str::of(alloc, "content")?,
+        read(alloc, content.as_bytes(), 64)?,
+    )?;
+    let value = ObjectValue {
+        id: Id::of(alloc, id)?.ok_or("no identifier")?,
+        type_name: TypeName::of(alloc, "0.TYPE/DO")?.ok_or("no type")?,
+        attributes,
+        metadata: Metadata {
+            created_by: Str::of(alloc, "admin")?,
+            created_on: 1,
+            modified_by: Str::of(alloc, "admin")?,
+            modified_on: 2,
+            revision: 1,
+        },
+        elements: Elements::none(alloc),
+    };
+    match Object::of(value) {
+        Some(object) => Ok(object),
+        None => Err(Fail::from("no object")),
+    }
+}
+
+fn order(alloc: Global, text: &str) -> Result<Order, Fail> {
+    match order_of(alloc, text) {
+        Ok(order) => Ok(order),
+        Err(_) => Err(Fail::from("no order")),
+    }
+}
+
+// The last letters of the identifiers on the page.
+fn letters(
+    alloc: Global,
+    objects: &[Object],
+    sorting: &str,
+    number: u64,
+    size: Option<u64>,
+) -> Result<String, Fail> {
+    let order = order(alloc, sorting)?;
+    let mut hits = Hits::none(alloc);
+    for object in objects {
+        hits.push(object)?;
+    }
+    let mut letters = String::new(alloc);
+    for hit in page(alloc, &order, &hits, number, size)?.as_slice() {
+        letters.push_str(hit.id().get())?;
+    }
+    Ok(letters)
+}
+
+#[test]
+fn a_text_names_keys_or_is_refused(rt: HostRuntime) -> Result<(), Fail> {
+    let rows = [
+        ("", true),
+        ("id", true),
+        (" id DESC ,\t/k\\,~1 ASC", true),
+        ("/a\\ DESC", true),
+        (" ", false),
+        ("id,", false),
+        ("idDESC", false),
+        ("id desc", false),
+        ("id DESC ASC", false),
+        ("/a(", false),
+    ];
+    for row in &rows {
+        match order_of(rt.alloc(), row.0) {
+            Ok(_) => assert!(rt; row.1),
+            Err(OrderFault::Refused) => assert!(rt; !row.1),
+            Err(OrderFault::Memory) => return Err(Fail::from("out of memory")),
+        }
+    }
+    Ok(())
+}
+
+// Six objects, a to f, with their contents.
+fn objects(alloc: Global) -> Result<Vec<Object>, Fail> {
+    let rows = [
+        ("a", "{}"),
+        ("b", "{\"k\":true}"),
+        ("c", "{\"k\":\"x\"}"),
+        ("d", "{\"k\":[2,1]}"),
+        ("e", "{\"k\":false}"),
+        ("f", "{\"k\":9}"),
+    ];
+    let mut objects = Vec::new(alloc);
+    for row in &rows {
+        objects.push(object(alloc, row.0, row.1)?)?;
+    }
+    Ok(objects)
+}
+
+// Whether each row's order and page give the identifiers after them.
+fn pages_are(alloc: Global, rows: &[(&str, u64, Option<u64>, &str)]) -> Result<bool, Fail> {
+    let objects = objects(alloc)?;
+    for row in rows {
+        if letters(alloc, &objects, row.0, row.1, row.2)?.as_str() != row.3 {
+            return Ok(false);
+        }
+    }
+    Ok(true)
+}
+
+#[test]
+fn hits_are_sorted(rt: HostRuntime) -> Result<(), Fail> {
+    let rows = [
+        ("", 0, None, "abcdef"),
+        ("/k", 0, None, "fcebad"),
+        ("/k DESC", 0, None, "becfad"),
+        ("/k/_,id DESC", 0, None, "dfecba"),
+    ];
+    assert!(rt; pages_are(rt.alloc(), &rows)?);
+    Ok(())
+}
+
+#[test]
+fn sorted_hits_are_cut_into_pages(rt: HostRuntime) -> Result<(), Fail> {
+    let rows = [
+        ("id DESC", 1, Some(4), "ba"),
+        ("id", 1, Some(2), "cd"),
+        ("id", 9, Some(1), ""),
+        ("id", 0, Some(0), ""),
+    ];
+    assert!(rt; pages_are(rt.alloc(), &rows)?);
+    Ok(())
+}
