@@ -1,4 +1,4 @@
-use Rattle.std.proofs.Common.{◌≡◌, ◌∷◌, ◌++◌, take, flat_map}
+use Rattle.std.proofs.Common.{◌≡◌, ◌∷◌, take, flat_map}
 use Rattle.doip_json.specs.Text.{text_of}
 use Rattle.doip_segment.specs.declared.kind.Kind.TheVariants as kinds
 use Rattle.doip_segment.specs.Segments.{segment}
