@@ -29,15 +29,15 @@ pub fn text_length(object: &Object) -> u64
 
 /// Adds the canonical text of the shown form at the end of the buffer. Out of memory the buffer stays as it was.
 ///
-/// One pass finds how much room to take, and takes it at once: twice the text, since the writer of JSON wants a byte
-/// beside each token. A second pass writes.
+/// One pass finds how much room to take, and takes it at once: the text and one byte, since the writer of JSON wants a
+/// byte beside each token. A second pass writes.
 pub fn append_text(alloc: Global, object: &Object, out: &mut Vec<u8>) -> Result<(), AllocError>
     ensures ok { OnOk result (out.new.items ≡ out.old.items ++ text_of (shown_form object.now)) }
     ensures err { OnErr result (out.new.items ≡ out.old.items) }
 {
     let before = out.len();
     let length = text_length(object) as usize;
-    out.reserve(length.saturating_mul(2))?;
+    out.reserve(length.saturating_add(1))?;
     let mut writer = Writer::new(mem::replace(out, Vec::new(alloc)));
     let written = write_shown(object.value(), &mut writer);
     *out = writer.into_inner();
