@@ -23,7 +23,7 @@ plain (x ∷ r) some a b c alone = record {
   some = omega arith;
   within = omega arith;
   reads = λ more. plain_reads x more a b c alone;
-  utf8 = λ front text. text;
+  utf8 = λ prefix text. text;
 }
 
 pub nothing_reads : tokens_of [] ≡ Some ([] ∷ [])
@@ -73,7 +73,7 @@ taken (x ∷ y ∷ r) head more = rw head record {
   some = omega arith;
   within = omega arith;
   reads = λ more. refl;
-  utf8 = λ front text. drop_ascii front (y ∷ r) 92 (omega arith) text;
+  utf8 = λ prefix text. drop_ascii prefix (y ∷ r) 92 (omega arith) text;
 }
 
 -- `~0` and `~1`
@@ -85,7 +85,7 @@ tilde (x ∷ y ∷ r) head more digit = rw (head, digit) record {
   some = omega arith;
   within = omega arith;
   reads = λ more. refl;
-  utf8 = λ front text. put_ascii front r 48 126 (omega arith) (omega arith) (drop_ascii front (48 ∷ r) 126 (omega arith) text);
+  utf8 = λ prefix text. put_ascii prefix r 48 126 (omega arith) (omega arith) (drop_ascii prefix (48 ∷ r) 126 (omega arith) text);
 }
 
 pub slash : (rest : List ℕ) → get_or rest 0 0 ≡ 126 → 1 < length rest → get_or rest 1 0 ≡ 49 → IsByte rest 47 2
@@ -96,7 +96,7 @@ slash (x ∷ y ∷ r) head more digit = rw (head, digit) record {
   some = omega arith;
   within = omega arith;
   reads = λ more. refl;
-  utf8 = λ front text. put_ascii front r 49 47 (omega arith) (omega arith) (drop_ascii front (49 ∷ r) 126 (omega arith) text);
+  utf8 = λ prefix text. put_ascii prefix r 49 47 (omega arith) (omega arith) (drop_ascii prefix (49 ∷ r) 126 (omega arith) text);
 }
 
 no_escape : (y : ℕ) (more : List ℕ) → y ≢ 48 → y ≢ 49 → tokens_of (126 ∷ y ∷ more) ≡ None

@@ -9,7 +9,7 @@ pub record IsByte (rest : List ℕ) (byte width : ℕ) : Type 0 where
   pub some : 0 < width
   pub within : width ≤ length rest
   pub reads : (more : List ℕ) → tokens_of (take width rest ++ more) ≡ option_map (before_first (byte ∷ [])) (tokens_of more)
-  pub utf8 : (front : List ℕ) → IsUtf8 (front ++ rest) → IsUtf8 (front ++ byte ∷ drop width rest)
+  pub utf8 : (prefix : List ℕ) → IsUtf8 (prefix ++ rest) → IsUtf8 (prefix ++ byte ∷ drop width rest)
 
 -- no pointer goes on with what stands up to this place, and some does with what stands before it
 pub record IsFault (rest : List ℕ) (place : ℕ) : Type 0 where
