@@ -190,14 +190,15 @@ elements_in (Some v) = Err (faults.BadField fields.Elements)
 
 -- ---- bytes in segments
 
+-- a value that was read of a segment of this number, or the fault of its text
+abbrev pub value_read : ℕ → Result Value TextFault → Result Value ObjectFault
+value_read n (Ok v) = Ok v
+value_read n (Err fault) = Err (faults.Json n fault)
+
 -- the JSON value of a segment of this number
 abbrev pub value_of_kind : ℕ → Kind → List ℕ → Result Value ObjectFault
 value_of_kind n kinds.Bytes bytes = Err (faults.Segment n)
 value_of_kind n kinds.Json bytes = value_read n (reading bytes segment_depth)
-  where
-    value_read : ℕ → Result Value TextFault → Result Value ObjectFault
-    value_read n (Ok v) = Ok v
-    value_read n (Err fault) = Err (faults.Json n fault)
 
 -- the identifier that names the element whose bytes come next
 abbrev pub named_in : ℕ → Option Value → Result (List ℕ) ObjectFault

@@ -8,10 +8,12 @@
 #![tactic(auto)]
 
 mod draft;
+mod law;
 mod listed;
 mod payloads;
 mod properties;
 mod reading;
 
 pub use draft::{Draft, DraftElement, DraftElements, ObjectFault, ObjectField};
+pub use law::{drafts_keep_their_bounds, drafts_make_objects, messages_bring_values};
 pub use reading::draft_of;
