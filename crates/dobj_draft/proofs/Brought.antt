@@ -1,5 +1,6 @@
 -- Values that are read of a text: no key comes twice, and they nest no deeper and are no longer than was asked.
-use Rattle.std.proofs.Common.{◌≡◌, ℕ, ◌≤◌, List, length, Bool, true, false, if◌then◌else◌, Option, Some, None, Result, Ok, Err, option_and_then, nat_le, nat_eq, refl, sym, ap, subst, ◌∙◌, arith}
+use Rattle.std.proofs.Common.{◌≡◌, ℕ, ◌≤◌, List, length, Bool, true, false, if◌then◌else◌, Option, Some, None, Result}
+use Rattle.std.proofs.Common.{Ok, Err, option_and_then, nat_le, nat_eq, refl, sym, ap, subst, ◌∙◌, arith}
 use Rattle.std.specs.Prelude.{⊤}
 use Rattle.std.specs.Str.{is_utf8}
 use Rattle.std.specs.Ordering.{match_ordering, is_eq}
@@ -14,7 +15,8 @@ use Rattle.json.specs.Json as tree
 use Rattle.json.specs.Lex.{tokens}
 use Rattle.doip_json.specs.declared.fault.TextFault.{TextFault}
 use Rattle.doip_json.specs.declared.fault.TextFault.TheVariants.{NotWhole, TooDeep}
-use Rattle.doip_json.specs.Value.{Value, null, truth, whole, text, list, table, Values, no_values, value, Entries, no_entries, entry}
+use Rattle.doip_json.specs.Value.{Value, null, truth, whole, text, list, table, Values, no_values, value, Entries}
+use Rattle.doip_json.specs.Value.{no_entries, entry}
 use Rattle.doip_json.specs.Look.{entry_of, field_of}
 use Rattle.doip_json.specs.Read.{reading, value_in, values_in, entries_in, if_data, or_fault}
 use Rattle.doip_json.proofs.Ascending.{compared, below}
@@ -56,36 +58,48 @@ abbrev mutual
 
 above_more : (k l : List ℕ) (ms : parsed.Members) → compared k l ≡ Less → AreAbove l ms → AreAbove k ms
 above_more k l parsed.no_members lower all = tt
-above_more k l (parsed.member m d ms) lower all = (nat_list_cmp_total.trans k l m lower all.0, above_more k l ms lower all.1)
+above_more k l (parsed.member m d ms) lower all =
+    (nat_list_cmp_total.trans k l m lower all.0, above_more k l ms lower all.1)
 
-above_put : (b k : List ℕ) (d : parsed.Data) (ms : parsed.Members) → compared b k ≡ Less → AreAbove b ms → AreAbove b (parsed.put k d ms)
+above_put : (b k : List ℕ) (d : parsed.Data) (ms : parsed.Members) → compared b k ≡ Less → AreAbove b ms
+    → AreAbove b (parsed.put k d ms)
 above_put b k d parsed.no_members one all = (one, tt)
 above_put b k d (parsed.member l e ms) one all =
-    elim (compared k l) as (λ o. AreAbove b (match_ordering o (parsed.member k d (parsed.member l e ms)) (parsed.member l d ms) (parsed.member l e (parsed.put k d ms)))) [
+    elim (compared k l) as (λ o. AreAbove b (match_ordering o (parsed.member k d (parsed.member l e ms))
+    (parsed.member l d ms) (parsed.member l e (parsed.put k d ms)))) [
       | Less ↦ (one, all)
       | Equal ↦ all
       | Greater ↦ (all.0, above_put b k d ms one all.1)
     ]
 
-ordered_here : (k l : List ℕ) (d e : parsed.Data) (ms : parsed.Members) → IsOrdered d → MembersOrdered (parsed.member l e ms) → MembersOrdered (parsed.put k d ms) → (o : Ordering) → compared k l ≡ o
-    → MembersOrdered (match_ordering o (parsed.member k d (parsed.member l e ms)) (parsed.member l d ms) (parsed.member l e (parsed.put k d ms)))
+ordered_here : (k l : List ℕ) (d e : parsed.Data) (ms : parsed.Members) → IsOrdered d
+    → MembersOrdered (parsed.member l e ms) → MembersOrdered (parsed.put k d ms) → (o : Ordering) → compared k l ≡ o
+    → MembersOrdered (match_ordering o (parsed.member k d (parsed.member l e ms)) (parsed.member l d ms)
+    (parsed.member l e (parsed.put k d ms)))
 ordered_here k l d e ms one all later Less is = ((is, above_more k l ms is all.0), one, all)
 ordered_here k l d e ms one all later Equal is = (all.0, one, all.2)
 ordered_here k l d e ms one all later Greater is = (above_put l k d ms (below k l is) all.0, all.1, later)
 
-ordered_put : (k : List ℕ) (d : parsed.Data) (ms : parsed.Members) → IsOrdered d → MembersOrdered ms → MembersOrdered (parsed.put k d ms)
+ordered_put : (k : List ℕ) (d : parsed.Data) (ms : parsed.Members) → IsOrdered d → MembersOrdered ms
+    → MembersOrdered (parsed.put k d ms)
 ordered_put k d parsed.no_members one all = (tt, one, tt)
-ordered_put k d (parsed.member l e ms) one all = ordered_here k l d e ms one all (ordered_put k d ms one all.2) (compared k l) refl
+ordered_put k d (parsed.member l e ms) one all =
+    ordered_here k l d e ms one all (ordered_put k d ms one all.2) (compared k l) refl
 
 mutual
   json_ordered : (j : tree.Json) (d : parsed.Data) → of_json j ≡ Some d → IsOrdered d
   json_ordered tree.null d e = let is : parsed.null ≡ d = cc in subst IsOrdered is tt
   json_ordered (tree.boolean b) d e = let is : parsed.boolean b ≡ d = cc in subst IsOrdered is tt
-  json_ordered (tree.number s) d e = let some = some_mapped parsed.number (number_of s) d e in subst IsOrdered (sym some.2) tt
+  json_ordered (tree.number s) d e =
+      let some = some_mapped parsed.number (number_of s) d e in subst IsOrdered (sym some.2) tt
   json_ordered (tree.string s) d e = let is : parsed.string s ≡ d = cc in subst IsOrdered is tt
-  json_ordered (tree.array js) d e = let some = some_mapped parsed.array (of_items js) d e in subst IsOrdered (sym some.2) (items_ordered js some.0 some.1)
+  json_ordered (tree.array js) d e =
+      let some = some_mapped parsed.array (of_items js) d e in
+      subst IsOrdered (sym some.2) (items_ordered js some.0 some.1)
   json_ordered (tree.object ms) d e =
-      let some = some_mapped parsed.object (of_members ms parsed.no_members) d e in subst IsOrdered (sym some.2) (members_ordered ms parsed.no_members some.0 some.1 tt)
+      let some =
+      some_mapped parsed.object (of_members ms parsed.no_members) d e in
+      subst IsOrdered (sym some.2) (members_ordered ms parsed.no_members some.0 some.1 tt)
 
   items_ordered : (js : tree.Items) (ds : parsed.Items) → of_items js ≡ Some ds → ItemsOrdered ds
   items_ordered tree.no_items ds e = let is : parsed.no_items ≡ ds = cc in subst ItemsOrdered is tt
@@ -93,15 +107,18 @@ mutual
       let some = some_paired parsed.item (of_json j) (of_items js) ds e in
       subst ItemsOrdered (sym some.4) (json_ordered j some.0 some.2, items_ordered js some.1 some.3)
 
-  members_ordered : (ms : tree.Members) (found made : parsed.Members) → of_members ms found ≡ Some made → MembersOrdered found → MembersOrdered made
+  members_ordered : (ms : tree.Members) (found made : parsed.Members) → of_members ms found ≡ Some made
+      → MembersOrdered found → MembersOrdered made
   members_ordered tree.no_members found made e all = let is : found ≡ made = cc in subst MembersOrdered is all
   members_ordered (tree.member k j ms) found made e all =
       let some = some_then (of_json j) (λ d. of_members ms (parsed.put k d found)) made e in
-      members_ordered ms (parsed.put k some.0 found) made some.2 (ordered_put k some.0 found (json_ordered j some.0 some.1) all)
+      members_ordered ms (parsed.put k some.0 found) made some.2
+      (ordered_put k some.0 found (json_ordered j some.0 some.1) all)
 
 -- ---- so the keys of values differ
 
-above_none : (k : List ℕ) (ms : parsed.Members) (es : Entries) → entries_in ms ≡ Some es → AreAbove k ms → entry_of k es ≡ None
+above_none : (k : List ℕ) (ms : parsed.Members) (es : Entries) → entries_in ms ≡ Some es → AreAbove k ms
+    → entry_of k es ≡ None
 above_none k parsed.no_members es e all = let is : no_entries ≡ es = cc in subst (λ x. entry_of k x ≡ None) is refl
 above_none k (parsed.member l d ms) es e all =
     let some = some_paired (entry l) (value_in d) (entries_in ms) es e in
@@ -113,10 +130,15 @@ mutual
   value_differs : (d : parsed.Data) (v : Value) → value_in d ≡ Some v → IsOrdered d → KeysDiffer v
   value_differs parsed.null v e all = let is : null ≡ v = cc in subst KeysDiffer is tt
   value_differs (parsed.boolean b) v e all = let is : truth b ≡ v = cc in subst KeysDiffer is tt
-  value_differs (parsed.number n) v e all = let some = some_mapped whole (as_integer n) v e in subst KeysDiffer (sym some.2) tt
+  value_differs (parsed.number n) v e all =
+      let some = some_mapped whole (as_integer n) v e in subst KeysDiffer (sym some.2) tt
   value_differs (parsed.string s) v e all = let is : text s ≡ v = cc in subst KeysDiffer is tt
-  value_differs (parsed.array ds) v e all = let some = some_mapped list (values_in ds) v e in subst KeysDiffer (sym some.2) (items_differ ds some.0 some.1 all)
-  value_differs (parsed.object ms) v e all = let some = some_mapped table (entries_in ms) v e in subst KeysDiffer (sym some.2) (members_differ ms some.0 some.1 all)
+  value_differs (parsed.array ds) v e all =
+      let some = some_mapped list (values_in ds) v e in
+      subst KeysDiffer (sym some.2) (items_differ ds some.0 some.1 all)
+  value_differs (parsed.object ms) v e all =
+      let some = some_mapped table (entries_in ms) v e in
+      subst KeysDiffer (sym some.2) (members_differ ms some.0 some.1 all)
 
   items_differ : (ds : parsed.Items) (vs : Values) → values_in ds ≡ Some vs → ItemsOrdered ds → ItemsDiffer vs
   items_differ parsed.no_items vs e all = let is : no_values ≡ vs = cc in subst ItemsDiffer is tt
@@ -128,7 +150,11 @@ mutual
   members_differ parsed.no_members es e all = let is : no_entries ≡ es = cc in subst EntriesDiffer is tt
   members_differ (parsed.member k d ms) es e all =
       let some = some_paired (entry k) (value_in d) (entries_in ms) es e in
-      subst EntriesDiffer (sym some.4) (above_none k ms some.1 some.3 all.0, value_differs d some.0 some.2 all.1, members_differ ms some.1 some.3 all.2)
+      subst EntriesDiffer (sym some.4) (
+        above_none k ms some.1 some.3 all.0,
+        value_differs d some.0 some.2 all.1,
+        members_differ ms some.1 some.3 all.2,
+      )
 
 -- ---- what a text brings
 
@@ -136,7 +162,8 @@ read_value : (o : Option Value) (v : Value) → or_fault NotWhole o ≡ Ok v →
 read_value None v e = absurd (cc)
 read_value (Some w) v e = cc
 
-shallow_value : (b : Bool) (o : Option Value) (v : Value) → (if b then or_fault NotWhole o else Err TooDeep) ≡ Ok v → (b ≡ true) × (o ≡ Some v)
+shallow_value : (b : Bool) (o : Option Value) (v : Value) → (if b then or_fault NotWhole o else Err TooDeep) ≡ Ok v
+    → (b ≡ true) × (o ≡ Some v)
 shallow_value true o v e = (refl, read_value o v e)
 shallow_value false o v e = absurd (cc)
 
@@ -151,26 +178,31 @@ record IsParsed (bytes : List ℕ) (depth : ℕ) (v : Value) : Type 0 where
   nests : nat_le (parsed.depth parsed_data) depth ≡ true
   gives : value_in parsed_data ≡ Some v
 
-parsed_from : (bytes : List ℕ) (depth : ℕ) (v : Value) (o : Option parsed.Data) → if_data depth o ≡ Ok v → ((d : parsed.Data) → o ≡ Some d → read bytes ≡ Some d) → IsParsed bytes depth v
+parsed_from : (bytes : List ℕ) (depth : ℕ) (v : Value) (o : Option parsed.Data) → if_data depth o ≡ Ok v
+    → ((d : parsed.Data) → o ≡ Some d → read bytes ≡ Some d) → IsParsed bytes depth v
 parsed_from bytes depth v None e is = absurd (cc)
 parsed_from bytes depth v (Some d) e is =
     let both = shallow_value (nat_le (parsed.depth d) depth) (value_in d) v e in
     record { parsed_data = d; is_read = is d refl; nests = both.0; gives = both.1 }
 
 parsed_of : (bytes : List ℕ) (depth : ℕ) (v : Value) → reading bytes depth ≡ Ok v → IsParsed bytes depth v
-parsed_of bytes depth v e = parsed_from bytes depth v (if is_utf8 bytes then read bytes else None) e (λ d is. utf8_read (is_utf8 bytes) (read bytes) d is)
+parsed_of bytes depth v e =
+    parsed_from bytes depth v (if is_utf8 bytes then read bytes else None) e
+    (λ d is. utf8_read (is_utf8 bytes) (read bytes) d is)
 
 tree_ordered : (o : Option tree.Json) (d : parsed.Data) → option_and_then of_json o ≡ Some d → IsOrdered d
 tree_ordered None d e = absurd (cc)
 tree_ordered (Some j) d e = json_ordered j d e
 
 read_ordered : (bytes : List ℕ) (d : parsed.Data) → read bytes ≡ Some d → IsOrdered d
-read_ordered bytes d e = tree_ordered (option_and_then (λ p. tree.if_last p.0 p.1) (tree.value max_depth (tokens bytes))) d e
+read_ordered bytes d e =
+    tree_ordered (option_and_then (λ p. tree.if_last p.0 p.1) (tree.value max_depth (tokens bytes))) d e
 
 low_depth : (m n : ℕ) → nat_le m n ≡ true → m ≤ n
 low_depth m n e = grind (arith, nat_tests)
 
-pub text_brings : (bytes : List ℕ) (depth : ℕ) (v : Value) → reading bytes depth ≡ Ok v → depth ≤ segment_depth → length bytes ≤ most_total → IsBrought v
+pub text_brings : (bytes : List ℕ) (depth : ℕ) (v : Value) → reading bytes depth ≡ Ok v → depth ≤ segment_depth
+    → length bytes ≤ most_total → IsBrought v
 text_brings bytes depth v e low short =
     let p = parsed_of bytes depth v e in
     let d = p.parsed_data in
@@ -189,7 +221,8 @@ property_brings k v w b is = record {
 }
 
 -- what a segment brings
-pub kind_brings : (n : ℕ) (kind : Kind) (bytes : List ℕ) (v : Value) → value_of_kind n kind bytes ≡ Ok v → length bytes ≤ most_total → IsBrought v
+pub kind_brings : (n : ℕ) (kind : Kind) (bytes : List ℕ) (v : Value) → value_of_kind n kind bytes ≡ Ok v
+    → length bytes ≤ most_total → IsBrought v
 kind_brings n kinds.Bytes bytes v e short = absurd (cc)
 kind_brings n kinds.Json bytes v e short = here (reading bytes segment_depth) refl e
   where

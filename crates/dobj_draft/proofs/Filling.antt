@@ -1,5 +1,6 @@
 -- Elements whose bytes come: what is listed of them stays, and the bytes are those of segments.
-use Rattle.std.proofs.Common.{◌≡◌, ℕ, suc, ◌+◌, ◌≤◌, List, [], ◌∷◌, map, Bool, true, false, if◌then◌else◌, Ok, nat_eq, codes, refl, sym, ap, subst, ◌∙◌, arith}
+use Rattle.std.proofs.Common.{◌≡◌, ℕ, suc, ◌+◌, ◌≤◌, List, [], ◌∷◌, map, Bool, true, false, if◌then◌else◌, Ok, nat_eq}
+use Rattle.std.proofs.Common.{codes, refl, sym, ap, subst, ◌∙◌, arith}
 use Rattle.std.specs.List.{AllByRecursion}
 use Rattle.std.specs.Prelude.{length, IfSome}
 use Rattle.std.specs.Cmp.Lexicographic.{pointwise}
@@ -8,7 +9,8 @@ use Rattle.doip_segment.specs.declared.kind.Kind.{Kind}
 use Rattle.doip_segment.specs.declared.kind.Kind.TheVariants as kinds
 use Rattle.doip_segment.specs.Segments.{Segment}
 use Rattle.dobj_draft.specs.declared.draft.DraftElement.{DraftElement}
-use Rattle.dobj_draft.specs.Draft.{value_of_kind, named_in, expected, bytes_in, bytes_of_kind, with_payload, filled, with_bytes, payloads}
+use Rattle.dobj_draft.specs.Draft.{value_of_kind, named_in, expected, bytes_in, bytes_of_kind, with_payload, filled}
+use Rattle.dobj_draft.specs.Draft.{with_bytes, payloads}
 use Rattle.dobj_draft.specs.Made.{unfilled}
 use Rattle.dobj_draft.proofs.Kept.{then_value, ok_value}
 
@@ -29,11 +31,13 @@ filled_same id bytes (e ∷ es) = here (pointwise nat_eq id e.id) (filled_same i
     here true later = refl
     here false later = ap (λ (x : List DraftElement). unfilled e ∷ x) later
 
-filled_within : (n : ℕ) (id bytes : List ℕ) (es : List DraftElement) → length bytes ≤ n → ComeWithin n es → ComeWithin n (filled id bytes es)
+filled_within : (n : ℕ) (id bytes : List ℕ) (es : List DraftElement) → length bytes ≤ n → ComeWithin n es
+    → ComeWithin n (filled id bytes es)
 filled_within n id bytes [] short all = tt
 filled_within n id bytes (e ∷ es) short all = here (pointwise nat_eq id e.id) (filled_within n id bytes es short all.1)
   where
-    here : (b : Bool) → ComeWithin n (filled id bytes es) → ComeWithin n (if b then with_payload bytes e ∷ es else e ∷ filled id bytes es)
+    here : (b : Bool) → ComeWithin n (filled id bytes es)
+        → ComeWithin n (if b then with_payload bytes e ∷ es else e ∷ filled id bytes es)
     here true later = (short, all.1)
     here false later = (all.0, later)
 
@@ -41,7 +45,8 @@ bytes_are : (m : ℕ) (kind : Kind) (own bytes : List ℕ) → bytes_of_kind m k
 bytes_are m kinds.Bytes own bytes e = ok_value own bytes e
 bytes_are m kinds.Json own bytes e = absurd (cc)
 
-bytes_within : (n m : ℕ) (rest : List Segment) (bytes : List ℕ) → bytes_in m rest ≡ Ok bytes → AreWithin n rest → length bytes ≤ n
+bytes_within : (n m : ℕ) (rest : List Segment) (bytes : List ℕ) → bytes_in m rest ≡ Ok bytes → AreWithin n rest
+    → length bytes ≤ n
 bytes_within n m [] bytes e all = absurd (cc)
 bytes_within n m (s ∷ rest) bytes e all = omega (arith, all.0, ap length (bytes_are m s.kind s.bytes bytes e))
 
@@ -50,7 +55,8 @@ pub record Fills (n : ℕ) (es made : List DraftElement) : Type 0 where
   pub same : map unfilled made ≡ map unfilled es
   pub within : ComeWithin n es → ComeWithin n made
 
-pair_fills : (n m : ℕ) (s : Segment) (rest : List Segment) (es made : List DraftElement) → with_bytes m s rest es ≡ Ok made → AreWithin n rest → Fills n es made
+pair_fills : (n m : ℕ) (s : Segment) (rest : List Segment) (es made : List DraftElement)
+    → with_bytes m s rest es ≡ Ok made → AreWithin n rest → Fills n es made
 pair_fills n m s rest es made e all =
     let one = then_value (value_of_kind m s.kind s.bytes) _ made e in
     let two = then_value (named_in m (field_of (codes "id") one.0)) _ made one.2 in
@@ -59,10 +65,12 @@ pair_fills n m s rest es made e all =
     let is = ok_value (filled two.0 four.0 es) made four.2 in
     record {
       same = ap (map unfilled) (sym is) ∙ filled_same two.0 four.0 es;
-      within = λ before. subst (ComeWithin n) is (filled_within n two.0 four.0 es (bytes_within n (suc m) rest four.0 four.1 all) before);
+      within = λ before. subst (ComeWithin n) is
+          (filled_within n two.0 four.0 es (bytes_within n (suc m) rest four.0 four.1 all) before);
     }
 
-pub payloads_fill : (n m : ℕ) (ss : List Segment) (es made : List DraftElement) → payloads m ss es ≡ Ok made → AreWithin n ss → Fills n es made
+pub payloads_fill : (n m : ℕ) (ss : List Segment) (es made : List DraftElement) → payloads m ss es ≡ Ok made
+    → AreWithin n ss → Fills n es made
 payloads_fill n m [] es made e all =
     let is = ok_value es made e in
     record { same = ap (map unfilled) (sym is); within = λ before. subst (ComeWithin n) is before }

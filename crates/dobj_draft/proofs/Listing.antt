@@ -1,11 +1,14 @@
 -- The elements that a draft lists: how many, that their identifiers differ, how deep and how long they are.
-use Rattle.std.proofs.Common.{◌≡◌, ◌≢◌, ℕ, zero, suc, ◌+◌, ◌*◌, ◌<◌, ◌≤◌, List, [], ◌∷◌, ◌++◌, length, map, get_or, Bool, true, false, if◌then◌else◌, Option, Some, None, Result, Ok, Err, nat_eq, nat_le, codes, refl, sym, ap, subst, ◌∙◌, arith}
+use Rattle.std.proofs.Common.{◌≡◌, ◌≢◌, ℕ, zero, suc, ◌+◌, ◌*◌, ◌<◌, ◌≤◌, List, [], ◌∷◌, ◌++◌, length, map, get_or}
+use Rattle.std.proofs.Common.{Bool, true, false, if◌then◌else◌, Option, Some, None, Result, Ok, Err, nat_eq, nat_le}
+use Rattle.std.proofs.Common.{codes, refl, sym, ap, subst, ◌∙◌, arith}
 use Rattle.std.specs.List.{AllByRecursion}
 use Rattle.std.specs.Cmp.Lexicographic.{pointwise}
 use Rattle.std.proofs.lemmas.Bool.Decides.{nat_tests}
 use Rattle.std.proofs.lemmas.List.{length-append, map-append}
 use Rattle.std.proofs.lemmas.List.Quantifiers.{all_pairs_push}
-use Rattle.doip_json.specs.Value.{Value, null, truth, whole, text, list, table, values_from, values_in, entries_from, entries_in, depth_of, deepest_value, deepest_entry}
+use Rattle.doip_json.specs.Value.{Value, null, truth, whole, text, list, table, values_from, values_in, entries_from}
+use Rattle.doip_json.specs.Value.{entries_in, depth_of, deepest_value, deepest_entry}
 use Rattle.doip_json.specs.Look.{entry_of, field_of}
 use Rattle.doip_json.specs.Text.{text_of, string_of}
 use Rattle.doip_json.proofs.Ascending.{Pairs}
@@ -21,7 +24,9 @@ use Rattle.dobj_draft.specs.declared.draft.ObjectFault.{ObjectFault}
 use Rattle.dobj_draft.specs.declared.draft.ObjectField.{ObjectField}
 use Rattle.dobj_draft.specs.declared.draft.ObjectField.TheVariants as fields
 use Rattle.dobj_draft.specs.declared.draft.DraftElement.{DraftElement}
-use Rattle.dobj_draft.specs.Draft.{unless_null, property, is_name, name_of, required_name, optional_text, optional_object, element_in, is_listed, and_element, with_element, elements_after, are_tables, elements_of, elements_in}
+use Rattle.dobj_draft.specs.Draft.{unless_null, property, is_name, name_of, required_name, optional_text}
+use Rattle.dobj_draft.specs.Draft.{optional_object, element_in, is_listed, and_element, with_element, elements_after}
+use Rattle.dobj_draft.specs.Draft.{are_tables, elements_of, elements_in}
 use Rattle.dobj_draft.proofs.Kept.{then_value, ok_value, if_ok}
 
 -- ---- what lies at a key
@@ -38,12 +43,14 @@ not_null (Some (table es)) v e = e
 pub property_found : (k : List ℕ) (v w : Value) → property k v ≡ Some w → field_of k v ≡ Some w
 property_found k v w e = not_null (field_of k v) w e
 
-entry_within : (k : List ℕ) (es : Pairs) (v : Value) → entry_of k (entries_from es) ≡ Some v → length (text_of v) + 2 ≤ entries_total es
+entry_within : (k : List ℕ) (es : Pairs) (v : Value) → entry_of k (entries_from es) ≡ Some v
+    → length (text_of v) + 2 ≤ entries_total es
 entry_within k [] v is = absurd (cc)
 entry_within k (e ∷ es) v is = here (pointwise nat_eq k e.0) is (entry_within k es v)
   where
     here : (b : Bool) → (if b then Some e.1 else entry_of k (entries_from es)) ≡ Some v
-        → (entry_of k (entries_from es) ≡ Some v → length (text_of v) + 2 ≤ entries_total es) → length (text_of v) + 2 ≤ entries_total (e ∷ es)
+        → (entry_of k (entries_from es) ≡ Some v → length (text_of v) + 2 ≤ entries_total es)
+        → length (text_of v) + 2 ≤ entries_total (e ∷ es)
     here true found later = let same : e.1 ≡ v = cc in omega (arith, ap (λ x. length (text_of x)) same)
     here false found later = omega (arith, later found)
 
@@ -81,24 +88,35 @@ id_shorter field None id n e short = absurd (cc)
 id_shorter field (Some null) id n e short = absurd (cc)
 id_shorter field (Some (truth b)) id n e short = absurd (cc)
 id_shorter field (Some (whole z)) id n e short = absurd (cc)
-id_shorter field (Some (text s)) id n e short = omega (arith, short (text s) refl, ap (λ x. length (string_of x)) (named field s id e))
+id_shorter field (Some (text s)) id n e short =
+    omega (arith, short (text s) refl, ap (λ x. length (string_of x)) (named field s id e))
 id_shorter field (Some (list vs)) id n e short = absurd (cc)
 id_shorter field (Some (table es)) id n e short = absurd (cc)
 
-type_shorter : (field : ObjectField) (o : Option Value) (name : Option (List ℕ)) (n : ℕ) → optional_text field o ≡ Ok name
-    → ((w : Value) → o ≡ Some w → length (text_of w) + 3 ≤ n) → entries_total (optional (codes "type") text name) ≤ n + 5
-type_shorter field None name n e short = omega (arith, ap (λ x. entries_total (optional (codes "type") text x)) (ok_value None name e))
+type_shorter : (field : ObjectField) (o : Option Value) (name : Option (List ℕ)) (n : ℕ)
+    → optional_text field o ≡ Ok name
+    → ((w : Value) → o ≡ Some w → length (text_of w) + 3 ≤ n)
+    → entries_total (optional (codes "type") text name) ≤ n + 5
+type_shorter field None name n e short =
+    omega (arith, ap (λ x. entries_total (optional (codes "type") text x)) (ok_value None name e))
 type_shorter field (Some null) name n e short = absurd (cc)
 type_shorter field (Some (truth b)) name n e short = absurd (cc)
 type_shorter field (Some (whole z)) name n e short = absurd (cc)
 type_shorter field (Some (text s)) name n e short =
-    omega (arith, ap (λ x. entries_total (optional (codes "type") text x)) (ok_value (Some s) name e), short (text s) refl)
+    omega (
+      arith,
+      ap (λ x. entries_total (optional (codes "type") text x)) (ok_value (Some s) name e),
+      short (text s) refl,
+    )
 type_shorter field (Some (list vs)) name n e short = absurd (cc)
 type_shorter field (Some (table es)) name n e short = absurd (cc)
 
-attributes_shorter : (field : ObjectField) (o : Option Value) (es : Option Pairs) (n : ℕ) → optional_object field o ≡ Ok es
-    → ((w : Value) → o ≡ Some w → length (text_of w) + 3 ≤ n) → entries_total (optional (codes "attributes") object_with es) ≤ n + 11
-attributes_shorter field None es n e short = omega (arith, ap (λ x. entries_total (optional (codes "attributes") object_with x)) (ok_value None es e))
+attributes_shorter : (field : ObjectField) (o : Option Value) (es : Option Pairs) (n : ℕ)
+    → optional_object field o ≡ Ok es
+    → ((w : Value) → o ≡ Some w → length (text_of w) + 3 ≤ n)
+    → entries_total (optional (codes "attributes") object_with es) ≤ n + 11
+attributes_shorter field None es n e short =
+    omega (arith, ap (λ x. entries_total (optional (codes "attributes") object_with x)) (ok_value None es e))
 attributes_shorter field (Some null) es n e short = absurd (cc)
 attributes_shorter field (Some (truth b)) es n e short = absurd (cc)
 attributes_shorter field (Some (whole z)) es n e short = absurd (cc)
@@ -112,7 +130,8 @@ attributes_shorter field (Some (table ts)) es n e short =
       ap (λ x. length (text_of (table x))) (entries_back ts),
     )
 
-attributes_shallow : (field : ObjectField) (o : Option Value) (es : Option Pairs) (n : ℕ) → optional_object field o ≡ Ok es
+attributes_shallow : (field : ObjectField) (o : Option Value) (es : Option Pairs) (n : ℕ)
+    → optional_object field o ≡ Ok es
     → ((w : Value) → o ≡ Some w → depth_of w ≤ n + 1) → deep_of es ≤ n
 attributes_shallow field None es n e shallow = omega (arith, ap deep_of (ok_value None es e))
 attributes_shallow field (Some null) es n e shallow = absurd (cc)
@@ -121,7 +140,12 @@ attributes_shallow field (Some (whole z)) es n e shallow = absurd (cc)
 attributes_shallow field (Some (text s)) es n e shallow = absurd (cc)
 attributes_shallow field (Some (list vs)) es n e shallow = absurd (cc)
 attributes_shallow field (Some (table ts)) es n e shallow =
-    omega (arith, ap deep_of (ok_value (Some (entries_in ts)) es e), shallow (table ts) refl, ap deepest_entry (entries_back ts))
+    omega (
+      arith,
+      ap deep_of (ok_value (Some (entries_in ts)) es e),
+      shallow (table ts) refl,
+      ap deepest_entry (entries_back ts),
+    )
 
 -- the parts of an element that is read
 record PartsOf (v : Value) (e : DraftElement) : Type 0 where
@@ -148,7 +172,8 @@ pub element_shorter : (v : Value) (e : DraftElement) → element_in v ≡ Ok e �
 element_shorter v e is =
     let parts = parts_of v e is in
     let n = length (text_of v) in
-    let short : (k : List ℕ) (w : Value) → property k v ≡ Some w → length (text_of w) + 3 ≤ n = λ k w found. field_shorter k v w (property_found k v w found) in
+    let short : (k : List ℕ) (w : Value) → property k v ≡ Some w → length (text_of w) + 3 ≤ n =
+    λ k w found. field_shorter k v w (property_found k v w found) in
     omega (
       arith,
       id_shorter _ _ e.id n parts.id (short (codes "id")),
@@ -156,7 +181,8 @@ element_shorter v e is =
       attributes_shorter _ _ e.attributes n parts.attributes (short (codes "attributes")),
     )
 
-pub element_shallower : (v : Value) (e : DraftElement) (n : ℕ) → element_in v ≡ Ok e → depth_of v ≤ n + 2 → deep_of e.attributes ≤ n
+pub element_shallower : (v : Value) (e : DraftElement) (n : ℕ) → element_in v ≡ Ok e → depth_of v ≤ n + 2
+    → deep_of e.attributes ≤ n
 element_shallower v e n is all =
     let parts = parts_of v e is in
     let shallow : (w : Value) → property (codes "attributes") v ≡ Some w → depth_of w ≤ n + 1 =
@@ -178,7 +204,8 @@ all_total (e ∷ es) = parts_total e + all_total es
 abbrev pub names_of : List DraftElement → List (List ℕ)
 names_of = map (λ e. e.id)
 
-shallow_next : (n : ℕ) (es : List DraftElement) (e : DraftElement) → AreShallow n es → deep_of e.attributes ≤ n → AreShallow n (es ++ e ∷ [])
+shallow_next : (n : ℕ) (es : List DraftElement) (e : DraftElement) → AreShallow n es → deep_of e.attributes ≤ n
+    → AreShallow n (es ++ e ∷ [])
 shallow_next n [] e all one = (one, tt)
 shallow_next n (x ∷ es) e all one = (all.0, shallow_next n es e all.1 one)
 
@@ -190,22 +217,26 @@ total_next : (es : List DraftElement) (e : DraftElement) → all_total (es ++ e 
 total_next [] e = omega arith
 total_next (x ∷ es) e = omega (arith, total_next es e)
 
-not_listed : (id : List ℕ) (es : List DraftElement) (k : ℕ) (d : List ℕ) → is_listed id es ≡ false → k < length (names_of es) → get_or (names_of es) k d ≡ id → ⊥
+not_listed : (id : List ℕ) (es : List DraftElement) (k : ℕ) (d : List ℕ) → is_listed id es ≡ false
+    → k < length (names_of es) → get_or (names_of es) k d ≡ id → ⊥
 not_listed id [] k d none within same = absurd (omega arith)
 not_listed id (e ∷ es) zero d none within same = differs (pointwise nat_eq id e.id) none (same_key id e.id same)
   where
     differs : (b : Bool) → (if b then true else is_listed id es) ≡ false → b ≡ true → ⊥
     differs true some same = absurd (cc)
     differs false some same = absurd (cc)
-not_listed id (e ∷ es) (suc k) d none within same = not_listed id es k d (later (pointwise nat_eq id e.id) none) (omega arith) same
+not_listed id (e ∷ es) (suc k) d none within same =
+    not_listed id es k d (later (pointwise nat_eq id e.id) none) (omega arith) same
   where
     later : (b : Bool) → (if b then true else is_listed id es) ≡ false → is_listed id es ≡ false
     later true some = absurd (cc)
     later false some = some
 
-names_next : (es : List DraftElement) (e : DraftElement) → is_listed e.id es ≡ false → AreApart (names_of es) → AreApart (names_of (es ++ e ∷ []))
+names_next : (es : List DraftElement) (e : DraftElement) → is_listed e.id es ≡ false → AreApart (names_of es)
+    → AreApart (names_of (es ++ e ∷ []))
 names_next es e new apart =
-    subst AreApart (sym (map-append (λ x. x.id) es (e ∷ []))) (all_pairs_push (λ a b. a ≢ b) (names_of es) e.id apart (λ k d within same. not_listed e.id es k d new within same))
+    subst AreApart (sym (map-append (λ x. x.id) es (e ∷ [])))
+    (all_pairs_push (λ a b. a ≢ b) (names_of es) e.id apart (λ k d within same. not_listed e.id es k d new within same))
 
 -- an element that is added
 record Adds (es : List DraftElement) (v : Value) (more : List DraftElement) : Type 0 where
@@ -214,7 +245,8 @@ record Adds (es : List DraftElement) (v : Value) (more : List DraftElement) : Ty
   new : is_listed one.id es ≡ false
   more_is : es ++ one ∷ [] ≡ more
 
-unless_listed : (b : Bool) (x y : List DraftElement) (fault : ObjectFault) → (if b then Err fault else Ok x) ≡ Ok y → (b ≡ false) × (x ≡ y)
+unless_listed : (b : Bool) (x y : List DraftElement) (fault : ObjectFault) → (if b then Err fault else Ok x) ≡ Ok y
+    → (b ≡ false) × (x ≡ y)
 unless_listed true x y fault e = absurd (cc)
 unless_listed false x y fault e = (refl, ok_value x y e)
 
@@ -232,7 +264,8 @@ pub record KeptOf (n : ℕ) (before : List DraftElement) (vs : List Value) (es :
   pub apart : AreApart (names_of before) → AreApart (names_of es)
   pub waiting : AreWaiting before → AreWaiting es
 
-pub kept_after : (n : ℕ) (before : List DraftElement) (vs : List Value) (es : List DraftElement) → elements_after before vs ≡ Ok es → KeptOf n before vs es
+pub kept_after : (n : ℕ) (before : List DraftElement) (vs : List Value) (es : List DraftElement)
+    → elements_after before vs ≡ Ok es → KeptOf n before vs es
 kept_after n before [] es e =
     let same = ok_value before es e in
     record {
@@ -249,15 +282,24 @@ kept_after n before (v ∷ vs) es e =
     let one = a.one in
     record {
       count = omega (arith, rest.count, ap length (sym a.more_is), length-append before (one ∷ []));
-      total = omega (arith, rest.total, ap all_total (sym a.more_is), total_next before one, element_shorter v one a.read);
-      shallow = λ all deep. rest.shallow (subst (AreShallow n) a.more_is (shallow_next n before one all (element_shallower v one n a.read (omega arith)))) (omega arith);
+      total = omega (
+        arith,
+        rest.total,
+        ap all_total (sym a.more_is),
+        total_next before one,
+        element_shorter v one a.read,
+      );
+      shallow = λ all deep. rest.shallow (subst (AreShallow n) a.more_is
+          (shallow_next n before one all (element_shallower v one n a.read (omega arith)))) (omega arith);
       apart = λ all. rest.apart (subst (λ x. AreApart (names_of x)) a.more_is (names_next before one a.new all));
-      waiting = λ all. rest.waiting (subst AreWaiting a.more_is (waiting_next before one all (parts_of v one a.read).waits));
+      waiting = λ all. rest.waiting (subst AreWaiting a.more_is
+          (waiting_next before one all (parts_of v one a.read).waits));
     }
 
 -- ---- the whole list
 
-pub tested : {A : Type 0} (b : Bool) (r : Result A ObjectFault) (y : A) (fault : ObjectFault) → (if b then r else Err fault) ≡ Ok y → (b ≡ true) × (r ≡ Ok y)
+pub tested : {A : Type 0} (b : Bool) (r : Result A ObjectFault) (y : A) (fault : ObjectFault)
+    → (if b then r else Err fault) ≡ Ok y → (b ≡ true) × (r ≡ Ok y)
 tested true r y fault e = (refl, e)
 tested false r y fault e = absurd (cc)
 
@@ -309,5 +351,6 @@ elements_kept n size (Some (list vs)) es e within =
     let ws = values_in vs in
     let back = values_back vs in
     let here = within (list vs) refl in
-    list_kept n size ws es e (omega (arith, here.0, list_total ws, ap (λ x. length (text_of (list x))) back)) (omega (arith, here.1, ap deepest_value back))
+    list_kept n size ws es e (omega (arith, here.0, list_total ws, ap (λ x. length (text_of (list x))) back))
+    (omega (arith, here.1, ap deepest_value back))
 elements_kept n size (Some (table ts)) es e within = absurd (cc)

@@ -1,12 +1,14 @@
 -- An object as it comes in, or the first fault (the properties are those of DOIP 2.0; which values are dropped, the
 -- limits and the order of the faults are this project's own).
-use Rattle.std.specs.Prelude.{◌≡◌, ℕ, suc, ◌+◌, List, [], ◌∷◌, ◌++◌, length, Bool, true, false, ◌&&◌, nat_le, nat_eq, if◌then◌else◌, is_none, Option, None, Some, Result, Ok, Err, codes}
+use Rattle.std.specs.Prelude.{◌≡◌, ℕ, suc, ◌+◌, List, [], ◌∷◌, ◌++◌, length, Bool, true, false, ◌&&◌, nat_le, nat_eq}
+use Rattle.std.specs.Prelude.{if◌then◌else◌, is_none, Option, None, Some, Result, Ok, Err, codes}
 use Rattle.std.specs.Ordering.{nat_cmp}
 use Rattle.std.specs.Cmp.Lexicographic.{slice_cmp, pointwise}
 use Rattle.std.specs.BTreeMap.{insert_entry}
 use Rattle.std.specs.Map.{remove_entry}
 use Rattle.doip_json.specs.declared.fault.TextFault.{TextFault}
-use Rattle.doip_json.specs.Value.{Value, null, text, list, table, Values, no_values, value, values_in, entries_in, entries_from}
+use Rattle.doip_json.specs.Value.{Value, null, text, list, table, Values, no_values, value, values_in, entries_in}
+use Rattle.doip_json.specs.Value.{entries_from}
 use Rattle.doip_json.specs.Look.{entry_of, field_of}
 use Rattle.doip_json.specs.Read.{reading}
 use Rattle.doip_segment.specs.declared.kind.Kind.{Kind}

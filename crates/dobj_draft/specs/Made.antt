@@ -1,6 +1,7 @@
 -- What an object that is made of a draft keeps. This project's own.
 use Rattle.std.specs.Prelude.{◌≡◌, ◌≢◌, ◌<◌, ◌≤◌, List, length, map, All, AllPairs, Option, None, IfSome, ⊤}
-use Rattle.doip_json.specs.Value.{Value, null, truth, whole, text, list, table, Values, no_values, value, Entries, no_entries, entry, depth_of}
+use Rattle.doip_json.specs.Value.{Value, null, truth, whole, text, list, table, Values, no_values, value, Entries}
+use Rattle.doip_json.specs.Value.{no_entries, entry, depth_of}
 use Rattle.doip_json.specs.Look.{entry_of}
 use Rattle.doip_json.specs.Text.{text_of}
 use Rattle.doip_segment.specs.Framing.{most_total}
@@ -34,8 +35,8 @@ abbrev mutual
   EntriesDiffer no_entries = ⊤
   EntriesDiffer (entry k v es) = (entry_of k es ≡ None) × KeysDiffer v × EntriesDiffer es
 
--- a value that a message brings: no key comes twice, it nests no deeper than a segment may, and it is written in no more
--- bytes than a message has
+-- a value that a message brings: no key comes twice, it nests no deeper than a segment may, and it is written in no
+-- more bytes than a message has
 pub record IsBrought (v : Value) : Type 0 where
   pub differ : KeysDiffer v
   pub nests : depth_of v ≤ segment_depth

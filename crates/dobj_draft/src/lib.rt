@@ -13,6 +13,8 @@ mod listed;
 mod payloads;
 mod properties;
 mod reading;
+#[cfg(test)]
+mod tests;
 
 pub use draft::{Draft, DraftElement, DraftElements, ObjectFault, ObjectField};
 pub use law::{drafts_keep_their_bounds, drafts_make_objects, messages_bring_values};

@@ -2,7 +2,9 @@
 ghost use Rattle.std.specs.Prelude.{◌≡◌, [], ◌∷◌, ◌++◌, OnOk, codes, option_map};
 ghost use Rattle.doip_json.specs.Meaning.{value_of};
 ghost use Rattle.dobj_draft.specs.declared.draft.ObjectField.TheVariants as fields;
-ghost use Rattle.dobj_draft.specs.Draft.{with_element, property, required_name, optional_text, optional_object, element_in, is_listed, is_table, elements_after, elements_of, elements_in, are_tables, Reads};
+ghost use Rattle.dobj_draft.specs.Draft.{with_element, property, required_name, optional_text, optional_object};
+ghost use Rattle.dobj_draft.specs.Draft.{element_in, is_listed, is_table, elements_after, elements_of, elements_in};
+ghost use Rattle.dobj_draft.specs.Draft.{are_tables, Reads};
 
 use crate::draft::{DraftElement, ObjectFault, ObjectField};
 use crate::properties::property_of;

@@ -1,11 +1,13 @@
 //! Reading the bytes of elements from segments.
-ghost use Rattle.std.specs.Prelude.{◌≡◌, ◌<◌, ◌+◌, ◌^◌, suc, drop, length, is_some, nat_eq, slice_index_or, slice_set, vec_len, Ok, Err, IfSome, IfOk, IfErr, codes};
+ghost use Rattle.std.specs.Prelude.{◌≡◌, ◌<◌, ◌+◌, ◌^◌, suc, drop, length, is_some, nat_eq, slice_index_or, slice_set};
+ghost use Rattle.std.specs.Prelude.{vec_len, Ok, Err, IfSome, IfOk, IfErr, codes};
 ghost use Rattle.std.specs.Cmp.Lexicographic.{pointwise};
 ghost use Rattle.dobj_draft.specs.declared.draft.DraftElement.{DraftElement};
 ghost use Rattle.doip_json.specs.Meaning.{value_of};
 ghost use Rattle.doip_json.specs.Look.{field_of};
 ghost use Rattle.doip_segment.specs.Segments.{segment_of};
-ghost use Rattle.dobj_draft.specs.Draft.{value_of_kind, named_in, expected, is_waiting, with_payload, bytes_in, with_bytes, payloads, Reads};
+ghost use Rattle.dobj_draft.specs.Draft.{value_of_kind, named_in, expected, is_waiting, with_payload, bytes_in};
+ghost use Rattle.dobj_draft.specs.Draft.{with_bytes, payloads, Reads};
 ghost use Rattle.dobj_draft.specs.Waiting.{IsFirst};
 
 use crate::draft::{DraftElement, ObjectFault};

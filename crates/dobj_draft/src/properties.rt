@@ -4,7 +4,9 @@ ghost use Rattle.doip_json.specs.Value.{entries_from, values_from};
 ghost use Rattle.doip_json.specs.Meaning.{value_of};
 ghost use Rattle.doip_json.specs.Look.{entry_of, field_of};
 ghost use Rattle.dobj_draft.specs.declared.draft.ObjectField.TheVariants as fields;
-ghost use Rattle.dobj_draft.specs.Draft.{unless_null, property, unsigned, optional_name, required_name, name_of, attributes_in, attributes_kept, with_acl, lists_in, is_access_list, unless_nulled, without, Reads};
+ghost use Rattle.dobj_draft.specs.Draft.{unless_null, property, unsigned, optional_name, required_name, name_of};
+ghost use Rattle.dobj_draft.specs.Draft.{attributes_in, attributes_kept, with_acl, lists_in, is_access_list};
+ghost use Rattle.dobj_draft.specs.Draft.{unless_nulled, without, Reads};
 
 use crate::draft::{ObjectFault, ObjectField};
 use dobj_model::{Id, TypeName, are_texts};

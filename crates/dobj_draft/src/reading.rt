@@ -31,13 +31,13 @@ struct Properties {
 /// | fault | comes |
 /// |---|---|
 /// | `Missing` | there is neither a value nor a part |
-/// | `Segment`, `Json` | the first part is bytes; isn't JSON, nests deeper than 64, or has a number that isn't an integer |
+/// | `Segment`, `Json` | the first part is bytes, or isn't JSON that nests at most 64 deep with integers alone |
 /// | `NotObject` | the value, or that of the first part, is no JSON object |
 /// | `Signatures` | `signatures` is something else than an empty array |
 /// | `BadField` | `id`, `type`, `attributes`, `acl` or `elements`, in this order, is of another kind |
 /// | `TooMany` | there are more than 1,000 elements |
-/// | `BadField`, `TwiceElement` | an element's `id`, `type` or `attributes` is of another kind, or its `id` stands before |
-/// | `Segment`, `Json`, `Stranger` | the parts after the first are no pairs of `{"id": ..}` and bytes, each for an element that is listed and waits |
+/// | `BadField`, `TwiceElement` | an element's `id`, `type` or `attributes` is of another kind; its `id` comes again |
+/// | `Segment`, `Json`, `Stranger` | a later pair isn't `{"id": ..}` and bytes, for a listed element that waits |
 ///
 /// `null` counts as absent, and is not kept in `content`, `acl`, `readers` and `writers`; `metadata` and other
 /// properties are not read. `Memory` comes only when an allocation was refused.

@@ -1,5 +1,6 @@
 //! The elements of an object.
-ghost use Rattle.std.specs.Prelude.{◌≡◌, ◌≢◌, ◌<◌, ◌↔◌, [], List, All, AllPairs, Any, Option, map, find, length, slice_get, Some, IsTrue, nat_eq, option_map};
+ghost use Rattle.std.specs.Prelude.{◌≡◌, ◌≢◌, ◌<◌, ◌↔◌, [], List, All, AllPairs, Any, Option, map, find, length};
+ghost use Rattle.std.specs.Prelude.{slice_get, Some, IsTrue, nat_eq, option_map};
 ghost use Rattle.std.specs.Option.{SomeIff};
 ghost use Rattle.std.specs.Cmp.Lexicographic.{pointwise};
 ghost use Rattle.dobj_model.specs.Elements.{AreElements, element_bound, ids_of};

@@ -7,7 +7,8 @@ ghost use Rattle.doip_json.specs.Look.{entry_of};
 ghost use Rattle.doip_json.specs.Places.{IsGapFor};
 ghost use Rattle.doip_json.specs.Text.{text_of};
 ghost use Rattle.doip_json.specs.Tokens.{tokens_of, item_tokens, entry_tokens};
-ghost use Rattle.dobj_model.specs.Shown.{object_with, optional, metadata_form, element_form, elements_form, with_metadata, shown_form};
+ghost use Rattle.dobj_model.specs.Shown.{object_with, optional, metadata_form, element_form, elements_form};
+ghost use Rattle.dobj_model.specs.Shown.{with_metadata, shown_form};
 
 use crate::elements::{Element, Elements};
 use crate::measure::shown_length;

@@ -8,5 +8,6 @@ use Rattle.dobj_draft.proofs.listed.element_attributes.Goals as goal
 pub returns-in_ok-copy_map-in-Some-Table : goal.returns-in_ok-copy_map-in-Some-Table
 returns-in_ok-copy_map-in-Some-Table c =
     let m = c.in-Some-Table.attributes in
-    sym (ap (optional_object fields.ElementAttributes) (sym (ap (λ j. Some (value_of j)) c.in-Some-Table.field-0-is) ∙ c.in-Some-Table.ensures))
+    sym (ap (optional_object fields.ElementAttributes)
+    (sym (ap (λ j. Some (value_of j)) c.in-Some-Table.field-0-is) ∙ c.in-Some-Table.ensures))
     ∙ ap (λ es. Ok (Some es)) (entries_listed m ∙ sym c.in_ok-copy_map-in-Some-Table.ensures)

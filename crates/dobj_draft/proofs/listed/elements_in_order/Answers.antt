@@ -22,4 +22,5 @@ returns-in_err-add_element c =
     let failed : c.from_residual.result ≡ Err fault = grind arith in
     subst (λ r. Reads (λ v. v.items) r (elements_after [] vs)) (sym failed)
     (fails_on fault (with_element l.elements.items v) (elements_after [] vs)
-    (λ e. l.invariant ∙ (here ∙ ap (λ r. r >>= (λ more. elements_after more (drop (l.i + 1) vs))) e)) c.in_err-add_element.ensures)
+    (λ e. l.invariant ∙ (here ∙ ap (λ r. r >>= (λ more. elements_after more (drop (l.i + 1) vs))) e))
+    c.in_err-add_element.ensures)

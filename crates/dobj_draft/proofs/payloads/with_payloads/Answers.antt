@@ -13,7 +13,8 @@ loop-pair-preserved c =
     let number : suc at + 2 ≡ suc (2 * (l.pair + 1) + 1) = omega arith in
     let place : at + 1 + 1 ≡ 2 * (l.pair + 1) + 1 = omega arith in
     l.invariant ∙ (pair_step segs at l.elements.items (omega arith)
-    ∙ (ap (λ r. r >>= payloads (suc at + 2) (drop (at + 1 + 1) segs)) c.in_ok-take_pair.ensures ∙ ap₂ (λ n d. payloads n (drop d segs) c.take_pair.new.elements.items) number place))
+    ∙ (ap (λ r. r >>= payloads (suc at + 2) (drop (at + 1 + 1) segs)) c.in_ok-take_pair.ensures
+    ∙ ap₂ (λ n d. payloads n (drop d segs) c.take_pair.new.elements.items) number place))
 
 pub returns-in_err-take_pair : goal.returns-in_err-take_pair
 returns-in_err-take_pair c =
@@ -25,4 +26,6 @@ returns-in_err-take_pair c =
     let meant = payloads 2 (drop 1 segs) c.args.elements.items in
     subst (λ r. Reads (λ v. v.items) r meant) (sym failed)
     (fails_on fault (with_bytes (suc at) (segment_of segs at) (drop (at + 1) segs) l.elements.items) meant
-    (λ e. l.invariant ∙ (pair_step segs at l.elements.items (omega arith) ∙ ap (λ r. r >>= payloads (suc at + 2) (drop (at + 1 + 1) segs)) e)) c.in_err-take_pair.ensures)
+    (λ e. l.invariant
+    ∙ (pair_step segs at l.elements.items (omega arith)
+    ∙ ap (λ r. r >>= payloads (suc at + 2) (drop (at + 1 + 1) segs)) e)) c.in_err-take_pair.ensures)

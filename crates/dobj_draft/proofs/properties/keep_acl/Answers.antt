@@ -9,16 +9,21 @@ use Rattle.dobj_draft.proofs.properties.keep_acl.Goals as goal
 pub returns-in_ok-put-in-Some-Table : goal.returns-in_ok-put-in-Some-Table
 returns-in_ok-put-in-Some-Table c =
     let es = without (codes "acl") c.args.attributes in
-    let is = sym c.remove.ensures.value ∙ ap (option_map value_of) (c.in-Some-Table.is ∙ ap Some c.in-Some-Table.field-0-is) in
+    let is =
+    sym c.remove.ensures.value ∙ ap (option_map value_of) (c.in-Some-Table.is ∙ ap Some c.in-Some-Table.field-0-is) in
     let kept = c.in_ok-kept-in-Some-Table.kept in
-    acl_kept (entry_of (codes "acl") (entries_from c.args.attributes)) c.in-Some-Table.lists kept es is c.in_ok-kept-in-Some-Table.ensures
-    ∙ ap Ok (sym (put_again c.put.new.self c.remove.new.self es kept c.in_ok-of-in-Some-Table.field-0 c.in_ok-put-in-Some-Table.ensures.ok c.remove.ensures.rest c.in_ok-of-in-Some-Table.ensures))
+    acl_kept (entry_of (codes "acl") (entries_from c.args.attributes)) c.in-Some-Table.lists kept es is
+    c.in_ok-kept-in-Some-Table.ensures
+    ∙ ap Ok (sym (put_again c.put.new.self c.remove.new.self es kept c.in_ok-of-in-Some-Table.field-0
+    c.in_ok-put-in-Some-Table.ensures.ok c.remove.ensures.rest c.in_ok-of-in-Some-Table.ensures))
 
 pub returns-in_err-kept-in-Some-Table : goal.returns-in_err-kept-in-Some-Table
 returns-in_err-kept-in-Some-Table c =
     let es = without (codes "acl") c.args.attributes in
     let o = entry_of (codes "acl") (entries_from c.args.attributes) in
-    let is = sym c.remove.ensures.value ∙ ap (option_map value_of) (c.in-Some-Table.is ∙ ap Some c.in-Some-Table.field-0-is) in
+    let is =
+    sym c.remove.ensures.value ∙ ap (option_map value_of) (c.in-Some-Table.is ∙ ap Some c.in-Some-Table.field-0-is) in
     let fault = c.in_err-kept-in-Some-Table.field-0.0 in
     let failed : c.from_residual.result ≡ Err fault = grind arith in
-    subst (λ r. Reads (λ m. m) r (with_acl o es)) (sym failed) (acl_fails o c.in-Some-Table.lists es fault is c.in_err-kept-in-Some-Table.ensures)
+    subst (λ r. Reads (λ m. m) r (with_acl o es)) (sym failed)
+    (acl_fails o c.in-Some-Table.lists es fault is c.in_err-kept-in-Some-Table.ensures)

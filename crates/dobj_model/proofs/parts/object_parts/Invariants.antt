@@ -7,4 +7,6 @@ use Rattle.dobj_model.specs.Shown.{shown_form}
 use Rattle.dobj_model.proofs.parts.object_parts.Given as goal
 
 abbrev pub invariant-loop-i : goal.invariant-loop-i
-invariant-loop-i l = l.parts.segments ≡ segment kinds.Json (text_of (shown_form l.object)) ∷ flat_map element_segments (take l.i l.elements)
+invariant-loop-i l =
+    l.parts.segments ≡ segment kinds.Json (text_of (shown_form l.object)) ∷ flat_map element_segments
+    (take l.i l.elements)
