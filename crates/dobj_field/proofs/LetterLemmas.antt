@@ -1,5 +1,6 @@
 -- What a letter of a pointer's text says of the tokens.
-use Rattle.std.proofs.Common.{◌≡◌, ◌≢◌, ℕ, ◌<◌, List, [], ◌∷◌, length, get_or, Some, None, option_map, refl, arith, ne_eqb, true, false}
+use Rattle.std.proofs.Common.{◌≡◌, ◌≢◌, ℕ, ◌<◌, List, [], ◌∷◌, length, get_or, Some, None, option_map, refl, arith}
+use Rattle.std.proofs.Common.{ne_eqb, true, false}
 use Rattle.dobj_field.specs.Field.{tokens_of, before_first, stands_apart}
 use Rattle.dobj_field.specs.Letters.{IsByte, IsFault}
 use Rattle.dobj_field.proofs.Utf8.{drop_ascii, put_ascii}
@@ -23,7 +24,7 @@ plain (x ∷ r) some a b c alone = record {
   some = omega arith;
   within = omega arith;
   reads = λ more. plain_reads x more a b c alone;
-  utf8 = λ front text. text;
+  utf8 = λ prefix text. text;
 }
 
 pub nothing_reads : tokens_of [] ≡ Some ([] ∷ [])
@@ -73,7 +74,7 @@ taken (x ∷ y ∷ r) head more = rw head record {
   some = omega arith;
   within = omega arith;
   reads = λ more. refl;
-  utf8 = λ front text. drop_ascii front (y ∷ r) 92 (omega arith) text;
+  utf8 = λ prefix text. drop_ascii prefix (y ∷ r) 92 (omega arith) text;
 }
 
 -- `~0` and `~1`
@@ -85,7 +86,8 @@ tilde (x ∷ y ∷ r) head more digit = rw (head, digit) record {
   some = omega arith;
   within = omega arith;
   reads = λ more. refl;
-  utf8 = λ front text. put_ascii front r 48 126 (omega arith) (omega arith) (drop_ascii front (48 ∷ r) 126 (omega arith) text);
+  utf8 = λ prefix text. put_ascii prefix r 48 126 (omega arith) (omega arith)
+      (drop_ascii prefix (48 ∷ r) 126 (omega arith) text);
 }
 
 pub slash : (rest : List ℕ) → get_or rest 0 0 ≡ 126 → 1 < length rest → get_or rest 1 0 ≡ 49 → IsByte rest 47 2
@@ -96,7 +98,8 @@ slash (x ∷ y ∷ r) head more digit = rw (head, digit) record {
   some = omega arith;
   within = omega arith;
   reads = λ more. refl;
-  utf8 = λ front text. put_ascii front r 49 47 (omega arith) (omega arith) (drop_ascii front (49 ∷ r) 126 (omega arith) text);
+  utf8 = λ prefix text. put_ascii prefix r 49 47 (omega arith) (omega arith)
+      (drop_ascii prefix (49 ∷ r) 126 (omega arith) text);
 }
 
 no_escape : (y : ℕ) (more : List ℕ) → y ≢ 48 → y ≢ 49 → tokens_of (126 ∷ y ∷ more) ≡ None
@@ -104,7 +107,8 @@ unfolding tokens_of
 no_escape y more a b = rw (ne_eqb y 48 a, ne_eqb y 49 b) refl
 
 -- a tilde before any other byte
-pub no_digit : (rest : List ℕ) → get_or rest 0 0 ≡ 126 → 1 < length rest → get_or rest 1 0 ≢ 48 → get_or rest 1 0 ≢ 49 → IsFault rest 1
+pub no_digit : (rest : List ℕ) → get_or rest 0 0 ≡ 126 → 1 < length rest → get_or rest 1 0 ≢ 48 → get_or rest 1 0 ≢ 49
+    → IsFault rest 1
 unfolding tokens_of
 no_digit [] head more a b = absurd (omega arith)
 no_digit (x ∷ []) head more a b = absurd (omega arith)

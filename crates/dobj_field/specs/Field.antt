@@ -1,5 +1,6 @@
 -- The grammar of a field, which names a part of an object. This project's own, after the JSON pointers of RFC 6901.
-use Rattle.std.specs.Prelude.{◌≡◌, ℕ, List, [], ◌∷◌, ◌++◌, Bool, ◌||◌, ◌==◌, if◌then◌else◌, Option, Some, None, option_map, codes}
+use Rattle.std.specs.Prelude.{◌≡◌, ℕ, List, [], ◌∷◌, ◌++◌, Bool, ◌||◌, ◌==◌, if◌then◌else◌, Option, Some, None}
+use Rattle.std.specs.Prelude.{option_map, codes}
 use Rattle.dobj_field.specs.declared.field.Field.{Field}
 use Rattle.dobj_field.specs.declared.field.Field.TheVariants.{Id, OfType, Pointer}
 
@@ -16,8 +17,8 @@ abbrev pub before_first : List ℕ → List (List ℕ) → List (List ℕ)
 before_first bytes [] = []
 before_first bytes (token ∷ tokens) = (bytes ++ token) ∷ tokens
 
--- The tokens of a pointer after its first `/`: a `/` begins the next token, `~0` is `~`, `~1` is `/`, and a `\` takes the
--- byte after it as it is.
+-- The tokens of a pointer after its first `/`: a `/` begins the next token, `~0` is `~`, `~1` is `/`, and a `\` takes
+-- the byte after it as it is.
 unfoldable pub tokens_of : List ℕ → Option (List (List ℕ))
 tokens_of [] = Some ([] ∷ [])
 tokens_of (x ∷ []) =

@@ -1,5 +1,6 @@
 -- What one letter of a pointer's text says of the text's tokens.
-use Rattle.std.specs.Prelude.{◌≡◌, ◌≤◌, ◌<◌, ◌+◌, ℕ, List, [], ◌∷◌, ◌++◌, length, take, drop, None, Some, option_map, IsSome, IsUtf8}
+use Rattle.std.specs.Prelude.{◌≡◌, ◌≤◌, ◌<◌, ◌+◌, ℕ, List, [], ◌∷◌, ◌++◌, length, take, drop, None, Some, option_map}
+use Rattle.std.specs.Prelude.{IsSome, IsUtf8}
 use Rattle.dobj_field.specs.declared.field.Letter.{Letter}
 use Rattle.dobj_field.specs.declared.field.Letter.TheVariants.{Slash, Byte, Fault}
 use Rattle.dobj_field.specs.Field.{tokens_of, before_first}
@@ -8,8 +9,9 @@ use Rattle.dobj_field.specs.Field.{tokens_of, before_first}
 pub record IsByte (rest : List ℕ) (byte width : ℕ) : Type 0 where
   pub some : 0 < width
   pub within : width ≤ length rest
-  pub reads : (more : List ℕ) → tokens_of (take width rest ++ more) ≡ option_map (before_first (byte ∷ [])) (tokens_of more)
-  pub utf8 : (front : List ℕ) → IsUtf8 (front ++ rest) → IsUtf8 (front ++ byte ∷ drop width rest)
+  pub reads : (more : List ℕ)
+      → tokens_of (take width rest ++ more) ≡ option_map (before_first (byte ∷ [])) (tokens_of more)
+  pub utf8 : (prefix : List ℕ) → IsUtf8 (prefix ++ rest) → IsUtf8 (prefix ++ byte ∷ drop width rest)
 
 -- no pointer goes on with what stands up to this place, and some does with what stands before it
 pub record IsFault (rest : List ℕ) (place : ℕ) : Type 0 where

@@ -1,5 +1,6 @@
 -- What a field reaches in an object, and the tests on it. This project's own.
-use Rattle.std.specs.Prelude.{ℕ, ℤ, int_le, List, [], ◌∷◌, flat_map, Bool, true, false, ◌&&◌, if◌then◌else◌, nat_eq, Option, Some, None, option_to_list, codes}
+use Rattle.std.specs.Prelude.{ℕ, ℤ, int_le, List, [], ◌∷◌, flat_map, Bool, true, false, ◌&&◌, if◌then◌else◌, nat_eq}
+use Rattle.std.specs.Prelude.{Option, Some, None, option_to_list, codes}
 use Rattle.std.specs.Cmp.Lexicographic.{pointwise}
 use Rattle.std.specs.Fmt.{signed_decimal}
 use Rattle.std.specs.List.{starts_with}

@@ -8,7 +8,7 @@ use doip_json::Str;
 use std::alloc::{AllocError, AllocFailed, Global};
 use std::marker::Model;
 
-/// The tokens of a pointer, seen as the list of their bytes.
+/// The tokens of a pointer, at least one, seen as the list of their bytes.
 #[derive(Debug, Drop)]
 pub struct PointerTokens {
     tokens: Vec<Str>,
@@ -19,13 +19,18 @@ impl Model for PointerTokens {
 
     ghost Value = { List (List ℕ) };
 
+    ghost use Rattle.std.specs.Prelude.{◌<◌, length};
+
     ghost view = { λ p. p.tokens.items };
+
+    ghost invariant = { λ p. 0 < length p.tokens.items };
 }
 
 impl PointerTokens {
-    /// The tokens, in order. A pointer has at least one.
+    /// The tokens, in order.
     pub fn as_slice(&self) -> &[Str]
-        ensures { result.now ≡ self.now }
+        ensures tokens { result.now ≡ self.now }
+        ensures some { 0 < length self.now }
     {
         self.tokens.as_slice()
     }

@@ -10,6 +10,8 @@
 
 mod field;
 mod reach;
+#[cfg(test)]
+mod tests;
 
 pub use field::{Field, FieldFault, PointerTokens, field_of};
 pub use reach::{Scalar, ScalarTest, first_scalar, reaches};

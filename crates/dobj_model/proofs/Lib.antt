@@ -5,5 +5,3 @@ pub mod Forms
 pub mod Distinct
 pub mod Between
 pub mod Written
-pub mod Drafts
-pub mod Pairs

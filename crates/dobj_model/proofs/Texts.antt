@@ -9,7 +9,8 @@ text_here [] i v e all = absurd (cc)
 text_here (w ∷ vs) zero v e all = let same : w ≡ v = cc in subst IsText same all.0
 text_here (w ∷ vs) (suc i) v e all = text_here vs i v e all.1
 
-pub texts_next : (vs : List Value) (i : ℕ) (v : Value) → slice_get vs i ≡ Some v → AreTexts (values_from (take i vs)) → IsText v → AreTexts (values_from (take (i + 1) vs))
+pub texts_next : (vs : List Value) (i : ℕ) (v : Value) → slice_get vs i ≡ Some v → AreTexts (values_from (take i vs))
+    → IsText v → AreTexts (values_from (take (i + 1) vs))
 texts_next [] i v e all one = absurd (cc)
 texts_next (w ∷ vs) zero v e all one = let same : w ≡ v = cc in (subst IsText (sym same) one, tt)
 texts_next (w ∷ vs) (suc i) v e all one =

@@ -1,5 +1,6 @@
 -- The length of a text by the totals of its parts.
-use Rattle.std.proofs.Common.{◌≡◌, ℕ, zero, suc, ◌+◌, max, List, [], ◌∷◌, ◌++◌, length, take, flat_map, Some, refl, arith}
+use Rattle.std.proofs.Common.{◌≡◌, ℕ, zero, suc, ◌+◌, max, List, [], ◌∷◌, ◌++◌, length, take, flat_map, Some, refl}
+use Rattle.std.proofs.Common.{arith}
 use Rattle.std.proofs.lemmas.List.{length-append}
 use Rattle.std.specs.List.{slice_get, join_with_byte}
 use Rattle.std.specs.Map.{keys_of, values_of}
@@ -25,24 +26,29 @@ entries_pieces [] = refl
 entries_pieces (e ∷ es) = omega (arith, length-append (string_of e.0) (58 ∷ text_of e.1), entries_pieces es)
 
 -- brackets and commas
-bracketed : (ps : List (List ℕ)) (first last : ℕ) → length (first ∷ (join_with_byte 44 ps ++ last ∷ [])) ≡ max (pieces_total ps) 1 + 1
+bracketed : (ps : List (List ℕ)) (first last : ℕ)
+    → length (first ∷ (join_with_byte 44 ps ++ last ∷ [])) ≡ max (pieces_total ps) 1 + 1
 bracketed [] first last = omega arith
 bracketed (p ∷ ps) first last = omega (arith, joined p ps, length-append (join_with_byte 44 (p ∷ ps)) (last ∷ []))
 
 pub list_total : (vs : List Value) → length (text_of (list (values_from vs))) ≡ max (items_total vs) 1 + 1
 list_total vs = omega (arith, bracketed (item_texts (values_from vs)) 91 93, items_pieces vs)
 
-pub table_total : (es : List (List ℕ × Value)) → length (text_of (table (entries_from es))) ≡ max (entries_total es) 1 + 1
+pub table_total : (es : List (List ℕ × Value))
+    → length (text_of (table (entries_from es))) ≡ max (entries_total es) 1 + 1
 table_total es = omega (arith, bracketed (entry_texts (entries_from es)) 123 125, entries_pieces es)
 
 -- one item more
-pub item_next : (vs : List Value) (i : ℕ) (v : Value) → slice_get vs i ≡ Some v → items_total (take (i + 1) vs) ≡ items_total (take i vs) + (length (text_of v) + 1)
+pub item_next : (vs : List Value) (i : ℕ) (v : Value) → slice_get vs i ≡ Some v
+    → items_total (take (i + 1) vs) ≡ items_total (take i vs) + (length (text_of v) + 1)
 item_next [] i v e = absurd (cc)
 item_next (w ∷ vs) zero v e = let same : w ≡ v = cc in rw (← same) (omega arith)
-item_next (w ∷ vs) (suc i) v e = let next : suc i + 1 ≡ suc (i + 1) = omega arith in rw next (omega (arith, item_next vs i v e))
+item_next (w ∷ vs) (suc i) v e =
+    let next : suc i + 1 ≡ suc (i + 1) = omega arith in rw next (omega (arith, item_next vs i v e))
 
 -- one entry more
-pub entry_next : (es : List (List ℕ × Value)) (i : ℕ) (k : List ℕ) (v : Value) → slice_get (keys_of es) i ≡ Some k → slice_get (values_of es) i ≡ Some v
+pub entry_next : (es : List (List ℕ × Value)) (i : ℕ) (k : List ℕ) (v : Value) → slice_get (keys_of es) i ≡ Some k
+    → slice_get (values_of es) i ≡ Some v
     → entries_total (take (i + 1) es) ≡ entries_total (take i es) + entry_total k v
 entry_next [] i k v e f = absurd (cc)
 entry_next (w ∷ es) zero k v e f =

@@ -3,6 +3,4 @@ pub mod Elements
 pub mod Shown
 pub mod Object
 pub mod Parts
-pub mod Draft
 pub mod Lengths
-pub mod Waiting

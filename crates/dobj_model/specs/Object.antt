@@ -1,6 +1,7 @@
 -- What every object keeps (the properties are those of DOIP 2.0; the limits are this project's own).
 use Rattle.std.specs.Prelude.{◌≡◌, ◌≢◌, ℕ, ◌^◌, ◌<◌, ◌≤◌, List, length, Option, None, Some, option_and_then, codes, ⊤}
-use Rattle.doip_json.specs.Value.{Value, null, truth, whole, text, list, table, Values, no_values, value, depth_of, entries_from}
+use Rattle.doip_json.specs.Value.{Value, null, truth, whole, text, list, table, Values, no_values, value, depth_of}
+use Rattle.doip_json.specs.Value.{entries_from}
 use Rattle.doip_json.specs.Look.{entry_of, field_of}
 use Rattle.doip_json.specs.Text.{text_of}
 use Rattle.dobj_model.specs.declared.metadata.Metadata.{Metadata}

@@ -49,7 +49,7 @@ fn keeps_texts(lists: &JsonMap, key: &str) -> bool
 }
 
 /// Whether the items are strings.
-pub(crate) fn are_texts(items: &JsonList) -> bool
+pub fn are_texts(items: &JsonList) -> bool
     ensures { IsTrue result ↔ AreTexts (values_from items.now) }
 {
     for i in 0..items.len() {

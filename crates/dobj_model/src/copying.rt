@@ -70,7 +70,7 @@ fn copy_elements(alloc: Global, elements: &Elements) -> Result<Elements, AllocEr
     ensures { IfOk result (λ made. made ≡ elements.now) }
 {
     let items = copy_items(alloc, elements.as_slice())?;
-    match Elements::of(alloc, items)? {
+    match Elements::of(items) {
         Some(made) => Ok(made),
         None => unreachable!(),
     }

@@ -1,5 +1,6 @@
 //! The elements of an object.
-ghost use Rattle.std.specs.Prelude.{◌≡◌, ◌≢◌, ◌<◌, ◌↔◌, [], List, All, AllPairs, Any, Option, map, find, length, slice_get, Some, IsTrue, IfOk, nat_eq, option_map};
+ghost use Rattle.std.specs.Prelude.{◌≡◌, ◌≢◌, ◌<◌, ◌↔◌, [], List, All, AllPairs, Any, Option, map, find, length};
+ghost use Rattle.std.specs.Prelude.{slice_get, Some, IsTrue, nat_eq, option_map};
 ghost use Rattle.std.specs.Option.{SomeIff};
 ghost use Rattle.std.specs.Cmp.Lexicographic.{pointwise};
 ghost use Rattle.dobj_model.specs.Elements.{AreElements, element_bound, ids_of};
@@ -7,7 +8,7 @@ ghost use Rattle.dobj_model.specs.Elements.{AreElements, element_bound, ids_of};
 use crate::id::Id;
 use base_core::Bytes;
 use doip_json::{JsonMap, Str};
-use std::alloc::{AllocError, Global};
+use std::alloc::Global;
 use std::marker::Model;
 
 /// The most elements of an object.
@@ -54,15 +55,14 @@ impl Model for Elements {
 
 impl Elements {
     /// The elements of an object, `None` exactly when there are more than 1,000, two have one identifier, or one has
-    /// 10^10 bytes or more. Nothing is copied.
-    pub fn of(alloc: Global, items: Vec<Element>) -> Result<Option<Elements>, AllocError>
-        ensures { IfOk result (λ made. SomeIff made (AreElements items.items) items.items) }
+    /// 10^10 bytes or more. It takes no memory and copies nothing.
+    pub fn of(items: Vec<Element>) -> Option<Elements>
+        ensures { SomeIff result (AreElements items.items) items.items }
     {
-        let _ = alloc;
         if fits(items.as_slice()) {
-            Ok(Some(Elements { items }))
+            Some(Elements { items })
         } else {
-            Ok(None)
+            None
         }
     }
 

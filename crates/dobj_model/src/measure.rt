@@ -6,7 +6,8 @@ ghost use Rattle.doip_json.specs.Sound.{IsSound, AreSound, EntriesAreSound};
 ghost use Rattle.doip_json.specs.Text.{text_of};
 ghost use Rattle.dobj_model.specs.Lengths.{items_total, entries_total};
 ghost use Rattle.dobj_model.specs.Object.{IsMetadata, most_nested};
-ghost use Rattle.dobj_model.specs.Shown.{object_with, optional, metadata_form, element_form, elements_form, shown_form, bare_form};
+ghost use Rattle.dobj_model.specs.Shown.{object_with, optional, metadata_form, element_form, elements_form, shown_form};
+ghost use Rattle.dobj_model.specs.Shown.{bare_form};
 
 use crate::depth::entries_within;
 use crate::elements::{Element, Elements};
@@ -96,7 +97,8 @@ fn element_length(element: &Element) -> u64
 
 // The entry `attributes` of an element, if it has some.
 fn attributes_entry_length(attributes: &Option<JsonMap>) -> u64
-    ensures length { result ≡ min (entries_total (optional (codes "attributes") object_with attributes.now)) (2 ^ 64 - 1) }
+    ensures length { result
+        ≡ min (entries_total (optional (codes "attributes") object_with attributes.now)) (2 ^ 64 - 1) }
     ensures sound { EntriesAreSound (entries_from (optional (codes "attributes") object_with attributes.now)) }
 {
     match attributes {

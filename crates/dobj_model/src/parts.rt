@@ -25,7 +25,10 @@ pub fn object_json(alloc: Global, object: &Object) -> Result<Json, AllocError>
     append_text(alloc, object, &mut shown)?;
     match read(alloc, shown.as_slice(), DEPTH) {
         Ok(json) => Ok(json),
-        Err(_) => Err(AllocError),
+        Err(fault) => match fault.text_fault() {
+            None => Err(AllocError),
+            Some(_) => unreachable!(),
+        },
     }
 }
 

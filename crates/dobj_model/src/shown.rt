@@ -7,7 +7,8 @@ ghost use Rattle.doip_json.specs.Look.{entry_of};
 ghost use Rattle.doip_json.specs.Places.{IsGapFor};
 ghost use Rattle.doip_json.specs.Text.{text_of};
 ghost use Rattle.doip_json.specs.Tokens.{tokens_of, item_tokens, entry_tokens};
-ghost use Rattle.dobj_model.specs.Shown.{object_with, optional, metadata_form, element_form, elements_form, with_metadata, shown_form};
+ghost use Rattle.dobj_model.specs.Shown.{object_with, optional, metadata_form, element_form, elements_form};
+ghost use Rattle.dobj_model.specs.Shown.{with_metadata, shown_form};
 
 use crate::elements::{Element, Elements};
 use crate::measure::shown_length;
@@ -29,15 +30,15 @@ pub fn text_length(object: &Object) -> u64
 
 /// Adds the canonical text of the shown form at the end of the buffer. Out of memory the buffer stays as it was.
 ///
-/// One pass finds how much room to take, and takes it at once: twice the text, since the writer of JSON wants a byte
-/// beside each token. A second pass writes.
+/// One pass finds how much room to take, and takes it at once: the text and one byte, since the writer of JSON wants a
+/// byte beside each token. A second pass writes.
 pub fn append_text(alloc: Global, object: &Object, out: &mut Vec<u8>) -> Result<(), AllocError>
     ensures ok { OnOk result (out.new.items ≡ out.old.items ++ text_of (shown_form object.now)) }
     ensures err { OnErr result (out.new.items ≡ out.old.items) }
 {
     let before = out.len();
     let length = text_length(object) as usize;
-    out.reserve(length.saturating_mul(2))?;
+    out.reserve(length.saturating_add(1))?;
     let mut writer = Writer::new(mem::replace(out, Vec::new(alloc)));
     let written = write_shown(object.value(), &mut writer);
     *out = writer.into_inner();

@@ -3,12 +3,14 @@ use Rattle.dobj_field.proofs.PointerLemmas.{start, after_slash, after_byte, toke
 use Rattle.dobj_field.proofs.field.pointer_of.Goals as goal
 
 pub loop-at-init : goal.loop-at-init
-loop-at-init c = rw (c.new-tokens.ensures.items, c.new-token.ensures.items) (start c.args.text.now c.requires.slash c.requires.utf8)
+loop-at-init c =
+    rw (c.new-tokens.ensures.items, c.new-token.ensures.items) (start c.args.text.now c.requires.slash c.requires.utf8)
 
 pub str_of-requires : goal.str_of-requires
 str_of-requires c =
     let l = c.loop-at in
-    token_text c.args.text.now l.at l.tokens.items l.token.items l.invariant (rw (rest_is c.args.text.now l.at) at (c.in-Slash.ensures))
+    token_text c.args.text.now l.at l.tokens.items l.token.items l.invariant
+    (rw (rest_is c.args.text.now l.at) at (c.in-Slash.ensures))
 
 pub loop-at-preserved-in-Slash : goal.loop-at-preserved-in-Slash
 loop-at-preserved-in-Slash c =

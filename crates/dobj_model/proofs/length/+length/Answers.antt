@@ -11,10 +11,12 @@ use Rattle.dobj_model.proofs.Totals.{item_next, entry_next, list_total, table_to
 use Rattle.dobj_model.proofs.length.+length.Goals as goal
 
 pub list_length-value_length-requires : goal.list_length-value_length-requires
-list_length-value_length-requires t c = (omega (arith, item_depth c.args.items.now c.loop-i.i (value_of c.item.result.now) c.item.ensures), tt)
+list_length-value_length-requires t c =
+    (omega (arith, item_depth c.args.items.now c.loop-i.i (value_of c.item.result.now) c.item.ensures), tt)
 
 pub entries_length-value_length-requires : goal.entries_length-value_length-requires
-entries_length-value_length-requires t c = (omega (arith, entry_depth c.args.map.now c.loop-i.i (value_of c.value_at.result.now) c.value_at.ensures), tt)
+entries_length-value_length-requires t c =
+    (omega (arith, entry_depth c.args.map.now c.loop-i.i (value_of c.value_at.result.now) c.value_at.ensures), tt)
 
 pub list_length-loop-i-preserved : goal.list_length-loop-i-preserved
 list_length-loop-i-preserved t c =
@@ -22,8 +24,16 @@ list_length-loop-i-preserved t c =
     let v = value_of c.item.result.now in
     let more = item_next c.args.items.now l.i v c.item.ensures in
     let next = take_next c.args.items.now l.i v c.item.ensures in (
-      omega (arith, more, l.invariant.0, c.value_length.ensures.length, c.saturating_add.ensures, c.saturating_add-total.ensures),
-      subst (λ vs. AreSound (values_from vs)) (sym next) (AreSound-append (take l.i c.args.items.now) v l.invariant.1 c.value_length.ensures.sound),
+      omega (
+        arith,
+        more,
+        l.invariant.0,
+        c.value_length.ensures.length,
+        c.saturating_add.ensures,
+        c.saturating_add-total.ensures,
+      ),
+      subst (λ vs. AreSound (values_from vs)) (sym next)
+          (AreSound-append (take l.i c.args.items.now) v l.invariant.1 c.value_length.ensures.sound),
     )
 
 pub list_length-returns-clause-length : goal.list_length-returns-clause-length
@@ -45,9 +55,22 @@ entries_length-loop-i-preserved t c =
     let v = value_of c.value_at.result.now in
     let more = entry_next c.args.map.now l.i k v c.key_at.ensures c.value_at.ensures in
     let named = ap (λ s. length (string_of s)) c.get.ensures.text in
-    let next = take_next c.args.map.now l.i (k, v) (entry_read c.args.map.now l.i k v c.key_at.ensures c.value_at.ensures) in (
-      omega (arith, more, named, l.invariant.0, c.string_length.ensures, c.saturating_add-key.ensures, c.saturating_add.ensures, c.value_length.ensures.length, c.saturating_add-total.ensures),
-      subst (λ es. EntriesAreSound (entries_from es)) (sym next) (EntriesAreSound-append (take l.i c.args.map.now) k v l.invariant.1 c.get.ensures.utf8 c.value_length.ensures.sound),
+    let next =
+    take_next c.args.map.now l.i (k, v) (entry_read c.args.map.now l.i k v c.key_at.ensures c.value_at.ensures) in (
+      omega (
+        arith,
+        more,
+        named,
+        l.invariant.0,
+        c.string_length.ensures,
+        c.saturating_add-key.ensures,
+        c.saturating_add.ensures,
+        c.value_length.ensures.length,
+        c.saturating_add-total.ensures,
+      ),
+      subst (λ es. EntriesAreSound (entries_from es)) (sym next)
+          (EntriesAreSound-append (take l.i c.args.map.now) k v l.invariant.1 c.get.ensures.utf8
+          c.value_length.ensures.sound),
     )
 
 pub entries_length-returns-clause-length : goal.entries_length-returns-clause-length
@@ -58,5 +81,6 @@ entries_length-returns-clause-length t c =
 pub entries_length-returns-clause-sound : goal.entries_length-returns-clause-sound
 entries_length-returns-clause-sound t c = (
   subst IsAscending (sym (keys_in-entries_from c.args.map.now)) c.len-i-end.ensures.ascending,
-  subst (λ es. EntriesAreSound (entries_from es)) (take_all c.loop-i.i c.args.map.now (omega arith)) c.loop-i.invariant.1,
+  subst (λ es. EntriesAreSound (entries_from es))
+      (take_all c.loop-i.i c.args.map.now (omega arith)) c.loop-i.invariant.1,
 )

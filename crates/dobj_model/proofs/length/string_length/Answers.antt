@@ -15,6 +15,8 @@ pub returns : goal.returns
 returns c =
     let l = c.loop-byte in
     let s = c.as_bytes-byte-items.result.now in
-    let all : length (flat_map escaped (take l.byte-index s)) ≡ length (flat_map escaped s) = ap (λ bs. length (flat_map escaped bs)) (take_all l.byte-index s c.loop-byte-test.false) in
-    let same : length (flat_map escaped s) ≡ length (flat_map escaped c.args.text.now) = ap (λ bs. length (flat_map escaped bs)) c.as_bytes-byte-items.ensures.value in
+    let all : length (flat_map escaped (take l.byte-index s)) ≡ length (flat_map escaped s) =
+    ap (λ bs. length (flat_map escaped bs)) (take_all l.byte-index s c.loop-byte-test.false) in
+    let same : length (flat_map escaped s) ≡ length (flat_map escaped c.args.text.now) =
+    ap (λ bs. length (flat_map escaped bs)) c.as_bytes-byte-items.ensures.value in
     omega (arith, all, same, l.invariant, string_total c.args.text.now)

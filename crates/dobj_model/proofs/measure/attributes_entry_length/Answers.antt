@@ -7,4 +7,5 @@ use Rattle.dobj_model.proofs.measure.attributes_entry_length.Goals as goal
 
 pub returns-in-Some-clause-sound : goal.returns-in-Some-clause-sound
 returns-in-Some-clause-sound c =
-    subst (λ o. EntriesAreSound (entries_from (optional (codes "attributes") object_with o))) (sym c.in-Some.is) (letters _ refl, c.map_length.ensures.sound, tt)
+    subst (λ o. EntriesAreSound (entries_from (optional (codes "attributes") object_with o))) (sym c.in-Some.is)
+    (letters _ refl, c.map_length.ensures.sound, tt)

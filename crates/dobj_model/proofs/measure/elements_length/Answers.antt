@@ -14,6 +14,14 @@ loop-i-preserved c =
     let v = element_form c.index-elements-i.result in
     let next = elements_next es l.i c.index-elements-i.result c.index-elements-i.is c.loop-i-test.true in
     let grown = ap items_total next ∙ items_total-append (map element_form (take l.i es)) v in (
-      omega (arith, grown, l.invariant.0, c.element_length.ensures.length, c.saturating_add.ensures, c.saturating_add-total.ensures),
-      subst (λ vs. AreSound (values_from vs)) (sym next) (AreSound-append (map element_form (take l.i es)) v l.invariant.1 c.element_length.ensures.sound),
+      omega (
+        arith,
+        grown,
+        l.invariant.0,
+        c.element_length.ensures.length,
+        c.saturating_add.ensures,
+        c.saturating_add-total.ensures,
+      ),
+      subst (λ vs. AreSound (values_from vs)) (sym next)
+          (AreSound-append (map element_form (take l.i es)) v l.invariant.1 c.element_length.ensures.sound),
     )

@@ -15,10 +15,29 @@ returns-clause-length c =
     let whole = form_length (with_metadata o.attributes o.metadata) o.elements o.id o.type_name some in
     let named = ap (λ s. length (string_of s)) c.get.ensures.text in
     let typed = ap (λ s. length (string_of s)) c.get-2.ensures.text in
-    omega (arith, all, whole, named, typed, c.entries_length.ensures.length, c.metadata_length.ensures.length, c.saturating_add-attributes.ensures, c.elements_entry_length-elements.ensures.length, c.string_length-id.ensures, c.string_length-type_name.ensures, c.saturating_add.ensures, c.saturating_add-2.ensures, c.saturating_add-3.ensures, c.saturating_add-4.ensures)
+    omega (
+      arith,
+      all,
+      whole,
+      named,
+      typed,
+      c.entries_length.ensures.length,
+      c.metadata_length.ensures.length,
+      c.saturating_add-attributes.ensures,
+      c.elements_entry_length-elements.ensures.length,
+      c.string_length-id.ensures,
+      c.string_length-type_name.ensures,
+      c.saturating_add.ensures,
+      c.saturating_add-2.ensures,
+      c.saturating_add-3.ensures,
+      c.saturating_add-4.ensures,
+    )
 
 pub returns-clause-sound : goal.returns-clause-sound
 returns-clause-sound c =
     let o = c.args.value.now in
-    let shown = sound_put o.attributes (codes "metadata") (metadata_form o.metadata) c.entries_length.ensures.sound (letters _ refl) c.metadata_length.ensures.sound in
-    form_sound (with_metadata o.attributes o.metadata) o.elements o.id o.type_name shown c.elements_entry_length-elements.ensures.sound c.get.ensures.utf8 c.get-2.ensures.utf8
+    let shown =
+    sound_put o.attributes (codes "metadata") (metadata_form o.metadata) c.entries_length.ensures.sound
+    (letters _ refl) c.metadata_length.ensures.sound in
+    form_sound (with_metadata o.attributes o.metadata) o.elements o.id o.type_name shown
+    c.elements_entry_length-elements.ensures.sound c.get.ensures.utf8 c.get-2.ensures.utf8

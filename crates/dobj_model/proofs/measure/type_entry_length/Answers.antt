@@ -7,4 +7,5 @@ use Rattle.dobj_model.proofs.measure.type_entry_length.Goals as goal
 
 pub returns-in-Some-clause-sound : goal.returns-in-Some-clause-sound
 returns-in-Some-clause-sound c =
-    subst (λ o. EntriesAreSound (entries_from (optional (codes "type") text o))) (sym c.in-Some.is) (letters _ refl, c.get.ensures.utf8, tt)
+    subst (λ o. EntriesAreSound (entries_from (optional (codes "type") text o))) (sym c.in-Some.is)
+    (letters _ refl, c.get.ensures.utf8, tt)

@@ -16,7 +16,8 @@ loop-i-preserved c =
     let more = ap (λ vs. item_tokens (values_from vs)) next ∙ item_tokens-append (map element_form (take l.i es)) v in
     record {
       written = c.in_ok-write_element.ensures.ok ∙ (ap (λ ts. ts ++ tokens_of v) l.invariant.written
-          ∙ (append_assoc c.args.out.now.tokens (begin_array ∷ item_tokens (values_from (map element_form (take l.i es)))) (tokens_of v)
+          ∙ (append_assoc c.args.out.now.tokens (begin_array ∷ item_tokens
+          (values_from (map element_form (take l.i es)))) (tokens_of v)
           ∙ ap (λ ts. c.args.out.now.tokens ++ begin_array ∷ ts) (sym more)));
       before = c.write_element.ensures.before ∙ l.invariant.before;
     }

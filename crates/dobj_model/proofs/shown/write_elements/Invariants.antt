@@ -7,6 +7,7 @@ use Rattle.dobj_model.proofs.shown.write_elements.Given as goal
 
 abbrev pub invariant-loop-i : goal.invariant-loop-i
 invariant-loop-i l = record {
-  written : l.out.tokens ≡ l.fn.out.tokens ++ begin_array ∷ item_tokens (values_from (map element_form (take l.i l.elements)));
+  written : l.out.tokens ≡ l.fn.out.tokens ++ begin_array ∷ item_tokens
+      (values_from (map element_form (take l.i l.elements)));
   before : l.out.before ≡ l.fn.out.before;
 }
