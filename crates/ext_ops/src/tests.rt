@@ -18,78 +18,59 @@ use std::test::Fail;
 const DIGEST: &str = "{\"element\":\"e\",\"length\":3,\"sha256\":\
     \"ba7816bf8f01cfea414140de5dae2223b00361a396177a9cb410ff61f20015ad\"}";
 
-fn id(alloc: Global, text: &str) -> Result<Id, Fail> {
-    match Id::of(alloc, text)? {
-        Some(id) => Ok(id),
-        None => Err(Fail::from("no identifier")),
+// The helpers return `None` if anything fails.
+
+fn id(alloc: Global, text: &str) -> Option<Id> {
+    match Id::of(alloc, text) {
+        Ok(id) => id,
+        Err(_) => None,
     }
 }
 
-fn json(alloc: Global, text: &str) -> Result<Json, Fail> {
-    match read(alloc, text.as_bytes(), 64) {
-        Ok(value) => Ok(value),
-        Err(_) => Err(Fail::from("no JSON")),
-    }
+fn json(alloc: Global, text: &str) -> Option<Json> {
+    read(alloc, text.as_bytes(), 64).ok()
 }
 
-fn arguments(alloc: Global, text: &str) -> Result<JsonMap, Fail> {
+fn arguments(alloc: Global, text: &str) -> Option<JsonMap> {
     match json(alloc, text)? {
-        Json::Table(arguments) => Ok(arguments),
-        _ => Err(Fail::from("no arguments")),
+        Json::Table(arguments) => Some(arguments),
+        _ => None,
     }
 }
 
 // One element, `e`, of the bytes `abc`.
-fn elements(alloc: Global) -> Result<Elements, Fail> {
+fn elements(alloc: Global) -> Option<Elements> {
     let element = Element {
         id: id(alloc, "e")?,
         type_name: None,
         attributes: None,
-        bytes: Bytes::of(alloc, b"abc")?,
+        bytes: Bytes::of(alloc, b"abc").ok()?,
     };
     let mut elements = Vec::new(alloc);
-    elements.push(element)?;
-    match Elements::of(alloc, elements)? {
-        Some(elements) => Ok(elements),
-        None => Err(Fail::from("no elements")),
-    }
-}
-
-fn metadata(alloc: Global) -> Result<Metadata, AllocError> {
-    Ok(Metadata {
-        created_by: Str::of(alloc, "admin")?,
-        created_on: 0,
-        modified_by: Str::of(alloc, "admin")?,
-        modified_on: 0,
-        revision: 1,
-    })
-}
-
-fn type_name(alloc: Global) -> Result<TypeName, Fail> {
-    match TypeName::of(alloc, "0.TYPE/DO")? {
-        Some(name) => Ok(name),
-        None => Err(Fail::from("no type")),
-    }
+    elements.push(element).ok()?;
+    Elements::of(alloc, elements).ok()?
 }
 
 // An object with the element, and a content.
-fn object(alloc: Global) -> Result<Object, Fail> {
+fn object(alloc: Global) -> Option<Object> {
+    let metadata = Metadata {
+        created_by: Str::of(alloc, "admin").ok()?,
+        created_on: 0,
+        modified_by: Str::of(alloc, "admin").ok()?,
+        modified_on: 0,
+        revision: 1,
+    };
     let id = id(alloc, "35.TEST/1")?;
-    let type_name = type_name(alloc)?;
+    let type_name = TypeName::of(alloc, "0.TYPE/DO").ok()??;
     let attributes = arguments(alloc, r#"{"content":{"k":"x","a/b":[7]}}"#)?;
-    let metadata = metadata(alloc)?;
     let elements = elements(alloc)?;
-    let value = ObjectValue {
+    Object::of(ObjectValue {
         id,
         type_name,
         attributes,
         metadata,
         elements,
-    };
-    match Object::of(value) {
-        Some(object) => Ok(object),
-        None => Err(Fail::from("no object")),
-    }
+    })
 }
 
 // What an operation answers on the object: the text of the output or of the refusal, or `nothing`.
@@ -98,28 +79,26 @@ fn answer_to(
     extensions: &Extensions,
     operation: &str,
     given: &str,
-) -> Result<Bytes, Fail> {
+) -> Option<Bytes> {
     let given = arguments(alloc, given)?;
     let object = object(alloc)?;
-    match extensions.call(operation, &object, &given)? {
-        Some(ExtAnswer::Answer(value)) => Ok(text(alloc, &value)?),
-        Some(ExtAnswer::Refused(reason)) => Ok(Bytes::of(alloc, reason.get().as_bytes())?),
-        None => Ok(Bytes::of(alloc, b"nothing")?),
-    }
+    let told = match extensions.call(operation, &object, &given).ok()? {
+        Some(ExtAnswer::Answer(value)) => text(alloc, &value),
+        Some(ExtAnswer::Refused(reason)) => Bytes::of(alloc, reason.get().as_bytes()),
+        None => Bytes::of(alloc, b"nothing"),
+    };
+    told.ok()
 }
 
 // What a hook makes of content, in the same way.
-fn change_of(
-    alloc: Global,
-    extensions: &Extensions,
-    name: &str,
-    content: &str,
-) -> Result<Bytes, Fail> {
-    match extensions.hook(name, &json(alloc, content)?)? {
-        Some(HookAnswer::Content(value)) => Ok(text(alloc, &value)?),
-        Some(HookAnswer::Refused(reason)) => Ok(Bytes::of(alloc, reason.get().as_bytes())?),
-        None => Ok(Bytes::of(alloc, b"nothing")?),
-    }
+fn change_of(alloc: Global, extensions: &Extensions, name: &str, content: &str) -> Option<Bytes> {
+    let content = json(alloc, content)?;
+    let told = match extensions.hook(name, &content).ok()? {
+        Some(HookAnswer::Content(value)) => text(alloc, &value),
+        Some(HookAnswer::Refused(reason)) => Bytes::of(alloc, reason.get().as_bytes()),
+        None => Bytes::of(alloc, b"nothing"),
+    };
+    told.ok()
 }
 
 // An extension of a program's own, as docs/EXTENDING.md shows it: the digest under another name.
@@ -146,22 +125,24 @@ fn an_element_is_digested(rt: HostRuntime) -> Result<(), Fail> {
     let mut extensions = Extensions::none(alloc);
     let digests = Extension {
         code: ExtCode::Digest,
-        operation: id(alloc, "ext/Op.Digest")?,
+        operation: id(alloc, "ext/Op.Digest").expect(&rt, "memory"),
         call: Box::new(
             alloc,
             move |object: &Object, arguments: &JsonMap| digest(alloc, object, arguments),
-        )?,
+        )
+        .expect(&rt, "memory"),
     };
-    extensions.add(digests)?;
+    extensions.add(digests).expect(&rt, "added");
     let sums = Extension {
         code: ExtCode::Digest,
-        operation: id(alloc, "ext/Op.Sum")?,
+        operation: id(alloc, "ext/Op.Sum").expect(&rt, "an identifier"),
         call: Box::new(
             alloc,
             move |object: &Object, arguments: &JsonMap| sum_of(alloc, object, arguments),
-        )?,
+        )
+        .expect(&rt, "memory"),
     };
-    extensions.add(sums)?;
+    extensions.add(sums).expect(&rt, "added");
     crosses(&extensions);
     let rows = [
         ("ext/Op.Digest", r#"{"element":"e"}"#, DIGEST),
@@ -171,7 +152,7 @@ fn an_element_is_digested(rt: HostRuntime) -> Result<(), Fail> {
         ("ext/Op.Other", "{}", "nothing"),
     ];
     for (operation, given, want) in rows {
-        let got = answer_to(alloc, &extensions, operation, given)?;
+        let got = answer_to(alloc, &extensions, operation, given).expect(&rt, "answered");
         assert_eq!(rt; got.get(), want.as_bytes(), "at {operation} {given}");
     }
     Ok(())
@@ -183,20 +164,22 @@ fn a_value_is_picked_and_no_second_pick_is_added(rt: HostRuntime) -> Result<(), 
     let mut extensions = Extensions::none(alloc);
     let picks = Extension {
         code: ExtCode::Pick,
-        operation: id(alloc, "ext/Op.Pick")?,
+        operation: id(alloc, "ext/Op.Pick").expect(&rt, "an identifier"),
         call: Box::new(
             alloc,
             move |object: &Object, arguments: &JsonMap| pick(alloc, object, arguments),
-        )?,
+        )
+        .expect(&rt, "memory"),
     };
-    extensions.add(picks)?;
+    extensions.add(picks).expect(&rt, "added");
     let again = Extension {
         code: ExtCode::Digest,
-        operation: id(alloc, "ext/Op.Pick")?,
+        operation: id(alloc, "ext/Op.Pick").expect(&rt, "an identifier"),
         call: Box::new(
             alloc,
             move |object: &Object, arguments: &JsonMap| digest(alloc, object, arguments),
-        )?,
+        )
+        .expect(&rt, "memory"),
     };
     assert!(rt; is_twice(extensions.add(again), "ext/Op.Pick"));
     assert_eq!(rt; extensions.operations().len(), 1);
@@ -207,7 +190,7 @@ fn a_value_is_picked_and_no_second_pick_is_added(rt: HostRuntime) -> Result<(), 
         (r#"{"pointer":"/a~2b"}"#, "pointer"),
     ];
     for (given, want) in rows {
-        let got = answer_to(alloc, &extensions, "ext/Op.Pick", given)?;
+        let got = answer_to(alloc, &extensions, "ext/Op.Pick", given).expect(&rt, "answered");
         assert_eq!(rt; got.get(), want.as_bytes(), "at {given}");
     }
     Ok(())
@@ -219,14 +202,14 @@ fn strings_are_trimmed_and_no_second_trim_is_added(rt: HostRuntime) -> Result<()
     let mut extensions = Extensions::none(alloc);
     let trims = WriteHook {
         code: HookCode::Trim,
-        name: id(alloc, "trim")?,
-        call: Box::new(alloc, move |content: &Json| trim(alloc, content))?,
+        name: id(alloc, "trim").expect(&rt, "an identifier"),
+        call: Box::new(alloc, move |content: &Json| trim(alloc, content)).expect(&rt, "memory"),
     };
-    extensions.add_hook(trims)?;
+    extensions.add_hook(trims).expect(&rt, "added");
     let again = WriteHook {
         code: HookCode::Trim,
-        name: id(alloc, "trim")?,
-        call: Box::new(alloc, move |content: &Json| trim(alloc, content))?,
+        name: id(alloc, "trim").expect(&rt, "an identifier"),
+        call: Box::new(alloc, move |content: &Json| trim(alloc, content)).expect(&rt, "memory"),
     };
     assert!(rt; is_twice(extensions.add_hook(again), "trim"));
     let rows = [
@@ -238,7 +221,7 @@ fn strings_are_trimmed_and_no_second_trim_is_added(rt: HostRuntime) -> Result<()
         (r#"" a ""#, r#"" a ""#),
     ];
     for (content, want) in rows {
-        let got = change_of(alloc, &extensions, "trim", content)?;
+        let got = change_of(alloc, &extensions, "trim", content).expect(&rt, "answered");
         assert_eq!(rt; got.get(), want.as_bytes(), "at {content}");
     }
     Ok(())
@@ -250,17 +233,17 @@ fn keys_are_counted(rt: HostRuntime) -> Result<(), Fail> {
     let mut extensions = Extensions::none(alloc);
     let counts = WriteHook {
         code: HookCode::Count,
-        name: id(alloc, "count")?,
-        call: Box::new(alloc, move |content: &Json| count(alloc, content))?,
+        name: id(alloc, "count").expect(&rt, "an identifier"),
+        call: Box::new(alloc, move |content: &Json| count(alloc, content)).expect(&rt, "memory"),
     };
-    extensions.add_hook(counts)?;
+    extensions.add_hook(counts).expect(&rt, "added");
     let rows = [
         ("count", r#"{"count":9,"a":1}"#, r#"{"a":1,"count":1}"#),
         ("count", "[1]", "content"),
         ("x", "{}", "nothing"),
     ];
     for (name, content, want) in rows {
-        let got = change_of(alloc, &extensions, name, content)?;
+        let got = change_of(alloc, &extensions, name, content).expect(&rt, "answered");
         assert_eq!(rt; got.get(), want.as_bytes(), "at {name} {content}");
     }
     Ok(())
