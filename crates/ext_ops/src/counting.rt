@@ -1,5 +1,5 @@
 //! Content that says how many keys it has.
-ghost use Rattle.std.specs.Prelude.{◌≡◌, length, codes, IfOk};
+ghost use Rattle.std.specs.Prelude.{◌≡◌, length, IfOk};
 ghost use Rattle.doip_json.specs.Meaning.{value_of};
 ghost use Rattle.ext_ops.specs.declared.code.HookCode.TheVariants.{Count};
 ghost use Rattle.ext_ops.specs.Hook.{content_of, other_keys, with_count, hook};
