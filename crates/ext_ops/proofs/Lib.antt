@@ -1,0 +1,4 @@
+pub mod WhiteLemmas
+pub mod EntryLemmas
+pub mod HookLemmas
+pub mod NameLemmas

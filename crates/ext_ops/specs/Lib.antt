@@ -1,0 +1,3 @@
+pub mod Extended
+pub mod Hook
+pub mod Offered
