@@ -48,7 +48,7 @@ fn elements(alloc: Global) -> Option<Elements> {
     };
     let mut elements = Vec::new(alloc);
     elements.push(element).ok()?;
-    Elements::of(alloc, elements).ok()?
+    Elements::of(elements)
 }
 
 // An object with the element, and a content.
