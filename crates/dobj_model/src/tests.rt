@@ -219,6 +219,18 @@ fn segment(parts: &Message, i: usize) -> &[u8] {
     }
 }
 
+#[test]
+fn the_text_is_written_into_the_room_that_was_taken(rt: HostRuntime) -> Result<(), Fail> {
+    let alloc = rt.alloc();
+    let object = example(alloc)?;
+    let mut out = Vec::new(alloc);
+    out.reserve(example_text().len().saturating_add(1))?;
+    let room = out.capacity();
+    append_text(alloc, &object, &mut out)?;
+    assert_eq!(rt; out.capacity(), room);
+    Ok(())
+}
+
 fn copied_parts(alloc: Global) -> Result<Message, Fail> {
     let object = copy_object(alloc, &example(alloc)?)?;
     Ok(object_parts(alloc, &object)?)
