@@ -4,7 +4,9 @@
 //! `specs/Draft.antt` says what each input means: a draft, or the first fault. `Reads` ties a result to what is meant:
 //! a fault is the one that is meant, unless it is out of memory.
 //!
-//! Read [`draft_of`] first, then [`ObjectFault`], the ways in which an input is no object.
+//! Read [`draft_of`] first, then [`ObjectFault`], the ways in which an input is no object. [`drafts_make_objects`] is the
+//! law by which what a message brings always makes an object. That a draft has an identifier, a type or all bytes is not
+//! promised: a caller asks for them.
 #![tactic(auto)]
 
 mod draft;

@@ -50,27 +50,48 @@ fn element(alloc: Global, id: &str, attributes: &str) -> Result<Element, Fail> {
     })
 }
 
-fn value_of(alloc: Global, made: &Made) -> Result<ObjectValue, Fail> {
-    let by = repeated(alloc, 'a', made.by)?;
+fn elements_of(alloc: Global, attributes: &str) -> Result<Elements, Fail> {
     let mut items = Vec::new(alloc);
-    items.push(element(alloc, "file", made.element)?)?;
+    items.push(element(alloc, "file", attributes)?)?;
+    Ok(Elements::of(items).ok_or("no elements")?)
+}
+
+fn metadata_of(alloc: Global, by: u64, revision: u64) -> Result<Metadata, Fail> {
+    let by = repeated(alloc, 'a', by)?;
+    Ok(Metadata {
+        created_by: Str::of(alloc, by.as_str())?,
+        created_on: 0,
+        modified_by: Str::of(alloc, by.as_str())?,
+        modified_on: 7,
+        revision,
+    })
+}
+
+fn value_of(alloc: Global, made: &Made) -> Result<ObjectValue, Fail> {
+    let elements = elements_of(alloc, made.element)?;
+    let metadata = metadata_of(alloc, made.by, made.revision)?;
     Ok(ObjectValue {
         id: Id::of(alloc, "35.TEST/f")?.ok_or("no identifier")?,
         type_name: TypeName::of(alloc, "0.TYPE/DO")?.ok_or("no type")?,
         attributes: map_of(alloc, made.attributes)?,
-        metadata: Metadata {
-            created_by: Str::of(alloc, by.as_str())?,
-            created_on: 0,
-            modified_by: Str::of(alloc, by.as_str())?,
-            modified_on: 7,
-            revision: made.revision,
-        },
-        elements: Elements::of(items).ok_or("no elements")?,
+        metadata,
+        elements,
     })
 }
 
 fn may_be_made(alloc: Global, made: &Made) -> Result<bool, Fail> {
     Ok(Object::of(value_of(alloc, made)?).is_some())
+}
+
+// Whether an object is made with these attributes.
+fn may_have(alloc: Global, attributes: &str) -> Result<bool, Fail> {
+    let made = Made {
+        attributes,
+        element: "{}",
+        by: 1,
+        revision: 1,
+    };
+    may_be_made(alloc, &made)
 }
 
 #[test]
@@ -85,15 +106,28 @@ fn attributes_are_kept_or_refused(rt: HostRuntime) -> Result<(), Fail> {
         ("{\"acl\":{\"readers\":[\"a\"],\"writers\":[1]}}", false),
     ];
     for row in &rows {
-        let made = Made {
-            attributes: row.0,
-            element: "{}",
-            by: 1,
-            revision: 1,
-        };
-        assert_eq!(rt; may_be_made(rt.alloc(), &made)?, row.1, "{}", row.0);
+        assert_eq!(rt; may_have(rt.alloc(), row.0)?, row.1, "{}", row.0);
     }
     Ok(())
+}
+
+// Whether an object is made with arrays nested so deep in it and in its element.
+fn may_be_nested(
+    alloc: Global,
+    attributes: u64,
+    element: u64,
+    by: u64,
+    revision: u64,
+) -> Result<bool, Fail> {
+    let attributes = nested(alloc, attributes)?;
+    let element = nested(alloc, element)?;
+    let made = Made {
+        attributes: attributes.as_str(),
+        element: element.as_str(),
+        by,
+        revision,
+    };
+    may_be_made(alloc, &made)
 }
 
 #[test]
@@ -109,15 +143,7 @@ fn an_object_is_made_at_each_bound_and_not_past_it(rt: HostRuntime) -> Result<()
         (1, 1, 0, 0x8000_0000_0000_0000, false),
     ];
     for row in &rows {
-        let attributes = nested(alloc, row.0)?;
-        let element = nested(alloc, row.1)?;
-        let made = Made {
-            attributes: attributes.as_str(),
-            element: element.as_str(),
-            by: row.2,
-            revision: row.3,
-        };
-        assert_eq!(rt; may_be_made(alloc, &made)?, row.4);
+        assert_eq!(rt; may_be_nested(alloc, row.0, row.1, row.2, row.3)?, row.4);
     }
     Ok(())
 }
@@ -169,15 +195,19 @@ fn shown(alloc: Global, object: &Object) -> Result<Vec<u8>, Fail> {
     Ok(out)
 }
 
+fn value_text(alloc: Global, object: &Object) -> Result<Bytes, Fail> {
+    let json = object_json(alloc, object)?;
+    Ok(text(alloc, &json)?)
+}
+
 #[test]
 fn the_shown_form_is_written_as_text_and_as_a_value(rt: HostRuntime) -> Result<(), Fail> {
     let alloc = rt.alloc();
     let object = example(alloc)?;
     let want = example_text();
     assert!(rt; shown(alloc, &object)?.as_slice() == want.as_bytes());
+    assert!(rt; value_text(alloc, &object)?.get() == want.as_bytes());
     assert_eq!(rt; text_length(&object), want.len() as u64);
-    let json = object_json(alloc, &object)?;
-    assert!(rt; text(alloc, &json)?.get() == want.as_bytes());
     Ok(())
 }
 
@@ -190,10 +220,26 @@ fn segment(parts: &Message, i: usize) -> &[u8] {
 }
 
 #[test]
+fn the_text_is_written_into_the_room_that_was_taken(rt: HostRuntime) -> Result<(), Fail> {
+    let alloc = rt.alloc();
+    let object = example(alloc)?;
+    let mut out = Vec::new(alloc);
+    out.reserve(example_text().len().saturating_add(1))?;
+    let room = out.capacity();
+    append_text(alloc, &object, &mut out)?;
+    assert_eq!(rt; out.capacity(), room);
+    Ok(())
+}
+
+fn copied_parts(alloc: Global) -> Result<Message, Fail> {
+    let object = copy_object(alloc, &example(alloc)?)?;
+    Ok(object_parts(alloc, &object)?)
+}
+
+#[test]
 fn a_copy_and_the_segments_have_the_same(rt: HostRuntime) -> Result<(), Fail> {
     let alloc = rt.alloc();
-    let object = copy_object(alloc, &example(alloc)?)?;
-    let parts = object_parts(alloc, &object)?;
+    let parts = copied_parts(alloc)?;
     assert_eq!(rt; parts.count(), 3);
     assert!(rt; segment(&parts, 0) == example_text().as_bytes());
     assert!(rt; segment(&parts, 1) == "{\"id\":\"file\"}".as_bytes());
