@@ -1,5 +1,5 @@
 -- What contracts see of the real objects: their counts, and nothing of what they hold.
-use Rattle.std.specs.Prelude.{◌≡◌, ℕ, List, Option, None, ⊥}
+use Rattle.std.specs.Prelude.{◌≡◌, ℕ, None}
 use Rattle.disk_core.specs.Disk.{DiskState}
 use Rattle.repo_cli.specs.declared.faults.Faults.{Faults}
 

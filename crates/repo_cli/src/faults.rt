@@ -29,7 +29,8 @@ impl Faults {
 
     /// Counts a fault of which the system says this.
     pub fn count(&mut self, error: Error) -> Failed
-        ensures { Counts (count_of self.old) (count_of self.new) }
+        ensures counted { Counts (count_of self.old) (count_of self.new) }
+        ensures later { count_of self.old ≤ count_of self.new }
     {
         self.count = counted(self.count);
         self.last = Some(error);

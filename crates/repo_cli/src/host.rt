@@ -1,5 +1,5 @@
 //! The process as a host.
-ghost use Rattle.std.specs.Prelude.{None};
+ghost use Rattle.std.specs.Prelude.{◌≤◌, length, None, IfOk};
 ghost use Rattle.repo_cli.specs.Real.{count_of};
 
 use crate::clock::RealClock;
@@ -67,12 +67,16 @@ fn read_front<R: Files<File = File>>(
     alloc: Global,
     path: &str,
     limit: u64,
-) -> IoResult<Vec<u8>> {
+) -> IoResult<Vec<u8>>
+    ensures { IfOk result (λ bytes. length bytes.items ≤ limit) }
+{
     let mut options = OpenOptions::new();
     options.read(true);
     let file = options.open(rt, path)?;
     let mut bytes = Vec::new(alloc);
     file.take(limit).read_to_end(&mut bytes)?;
+    // `take` gives no more; a proof learns the bound here.
+    bytes.truncate(limit as usize);
     Ok(bytes)
 }
 

@@ -77,11 +77,14 @@ fn main(rt: HostRuntime) -> ExitCode {
     };
     let mut host = RealHost::new(&rt, alloc, rt.stdin(), rt.stdout());
     let ran = run_plain(alloc, &invocation.arguments, &mut host);
-    let cause = match (ran.note, &ran.link) {
-        (Note::Host, _) => host.last_fault(),
-        (Note::End(_), Some(link)) => link.last_fault(),
-        _ => None,
-    };
-    print_note(&rt, file_name(invocation.path.get()), ran.note, cause);
+    let program = file_name(invocation.path.get());
+    match ran.note {
+        Note::Host => print_note(&rt, program, ran.note, host.last_fault()),
+        Note::End(_) => match &ran.link {
+            Some(link) => print_note(&rt, program, ran.note, link.last_fault()),
+            None => print_note(&rt, program, ran.note, None),
+        },
+        _ => print_note(&rt, program, ran.note, None),
+    }
     ExitCode::from(ran.status)
 }
