@@ -204,4 +204,10 @@ impl Disk for MemoryDisk {
     {
         self.pass(DiskCall::Sync, 0)
     }
+
+    fn fault_count(&self) -> u64
+        ensures { result ≡ min (state_of self.now).faults (2 ^ 64 - 1) }
+    {
+        self.log.failed.saturating_add(self.starved)
+    }
 }

@@ -68,9 +68,11 @@ fn a_fused_disk_fails_after_its_calls(rt: HostRuntime) -> Result<(), Fail> {
     assert_eq!(rt; disk.length(), Ok(3));
     assert_eq!(rt; disk.read_at(1, &mut into), Ok(2));
     assert_eq!(rt; &into[..2], b"bc".as_slice());
+    assert_eq!(rt; disk.fault_count(), 0);
     assert_eq!(rt; disk.length(), Err(Failed));
     assert_eq!(rt; disk.write_at(0, b"x"), Err(Failed));
     assert_eq!(rt; disk.sync(), Err(Failed));
+    assert_eq!(rt; disk.fault_count(), 3);
     let inner = disk.into_inner();
     assert_eq!(rt; inner.file(), b"abc".as_slice());
     assert_eq!(rt; inner.starved, 0);
