@@ -19,13 +19,13 @@ written_filled place size piece file is =
     let zeros : List ℕ = replicate (size - length file) 0 in
     let end : ℕ = place + length piece in
     let filled : take size file ++ zeros ≡ file ++ zeros = ap (λ (l : List ℕ). l ++ zeros) (take_all size file (omega arith)) in
-    let front : take place (file ++ zeros) ≡ take place file ++ replicate (place - length file) 0 =
+    let prefix : take place (file ++ zeros) ≡ take place file ++ replicate (place - length file) 0 =
     take-append place file zeros ∙ ap (λ (l : List ℕ). take place file ++ l) (take-replicate (place - length file) (size - length file) 0 (omega arith)) in
     let none : (size - length file) - (end - length file) ≡ 0 = omega arith in
     let back : drop end (file ++ zeros) ≡ drop end file =
     drop-append end file zeros ∙ ap (λ (l : List ℕ). drop end file ++ l) (drop-replicate (end - length file) (size - length file) 0 ∙ ap (λ (k : ℕ). replicate k 0) none) ∙ append-nil (drop end file) in
     ap (λ (l : List ℕ). take place l ++ (piece ++ drop end l)) filled
-    ∙ ap (λ (l : List ℕ). l ++ (piece ++ drop end (file ++ zeros))) front
+    ∙ ap (λ (l : List ℕ). l ++ (piece ++ drop end (file ++ zeros))) prefix
     ∙ ap (λ (l : List ℕ). (take place file ++ replicate (place - length file) 0) ++ (piece ++ l)) back
     ∙ append_assoc (take place file) (replicate (place - length file) 0) (piece ++ drop end file)
 

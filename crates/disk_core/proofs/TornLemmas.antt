@@ -5,13 +5,13 @@ use Rattle.std.specs.List.{All, Contains}
 use Rattle.std.proofs.lemmas.List.{take_more, reverse-append}
 use Rattle.std.proofs.lemmas.List.Elements.{All-append, All-cons, All-nil, Contains-get_or, Contains-append_right}
 use Rattle.std.proofs.lemmas.Option.{get_or_from_slice_get}
-use Rattle.disk_core.specs.Disk.{written}
+use Rattle.disk_core.specs.Disk.{written, Torn}
 use Rattle.disk_core.specs.Past.{Leaves, file_after, IsImage, IsImageAt}
-use Rattle.disk_core.specs.Torn.{IsTornOf, IsImageBy}
+use Rattle.disk_core.specs.Torn.{AddsOnly, IsTornOf, IsImageBy}
 use Rattle.disk_core.specs.declared.calls.DiskCall.{DiskCall}
 use Rattle.disk_core.specs.declared.calls.DiskCall.TheVariants.{Length, ReadAt, WriteAt, Sync}
 use Rattle.disk_core.specs.declared.calls.Noted.{Noted}
-use Rattle.disk_core.specs.PastLaws.{torn_written, reads}
+use Rattle.disk_core.specs.PastLaws.{torn_same, torn_written, reads}
 use Rattle.disk_core.proofs.TornLaws.{torn_inside}
 
 pub held : (xs : List (List ℕ)) (i : ℕ) (x : List ℕ) → i < length xs → slice_get xs i ≡ Some x → Contains xs x
@@ -20,12 +20,28 @@ held xs i x within is = subst (Contains xs) (get_or_from_slice_get xs i x [] is)
 pub torn_part : (before : List (List ℕ)) (old part : List ℕ) (place n : ℕ) → Contains before old → length part ≤ n → IsTornOf before place n (written place part old)
 torn_part before old part place n has le = (old, has, torn_inside place n place (length part) old (written place part old) (omega arith) (omega (arith, le)) (torn_written place part old))
 
+-- a part of a piece, written into an image
+pub torn_alone : (old part : List ℕ) (place n : ℕ) → length part ≤ n → Torn place n old (written place part old)
+torn_alone old part place n le = torn_inside place n place (length part) old (written place part old) (omega arith) (omega (arith, le)) (torn_written place part old)
+
+-- images that stay, as if a write was missing
+pub still_torn : (before images : List (List ℕ)) (place n : ℕ) → All (Contains before) images → All (IsTornOf before place n) images
+still_torn before images place n all = λ k d within. (get_or images k d, all k d within, torn_same place n (get_or images k d))
+
+-- what is added to an image is added to images that have it
+pub added_to : (before images more : List (List ℕ)) (old : List ℕ) (place n : ℕ) → Contains before old → AddsOnly (Torn place n old) images more → All (IsTornOf before place n) images → All (IsTornOf before place n) more
+added_to before images more old place n has adds all =
+    subst (All (IsTornOf before place n)) (sym adds.1) (All-append (IsTornOf before place n) images adds.0 all (λ k d within. (old, has, adds.2 k d within)))
+
 -- more of them join
 pub joins : (P : List ℕ → Type 0) (images more later : List (List ℕ)) → later ≡ images ++ more → All P images → All P more → All P later
 joins P images more later is all also = subst (All P) (sym is) (All-append P images more all also)
 
 pub one : (P : List ℕ → Type 0) (a : List ℕ) → P a → All P (a ∷ [])
 one P a pa = All-cons P a [] pa (All-nil P)
+
+pub two : (P : List ℕ → Type 0) (a b : List ℕ) → P a → P b → All P (a ∷ b ∷ [])
+two P a b pa pb = All-cons P a (b ∷ []) pa (one P b pb)
 
 pub three : (P : List ℕ → Type 0) (a b c : List ℕ) → P a → P b → P c → All P (a ∷ b ∷ c ∷ [])
 three P a b c pa pb pc = All-cons P a (b ∷ c ∷ []) pa (All-cons P b (c ∷ []) pb (one P c pc))

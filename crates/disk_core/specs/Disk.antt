@@ -1,5 +1,6 @@
 -- What contracts see of a disk, what its calls do to its file, and what a crash may leave of it.
-use Rattle.std.specs.Prelude.{◌≡◌, ◌↔◌, ℕ, ◌+◌, ◌-◌, ◌<◌, ◌≤◌, min, max, List, ◌++◌, length, take, drop, replicate, Result, Option, Some, IfOk, OnOk, IsOk}
+use Rattle.std.specs.Prelude.{◌≡◌, ◌↔◌, ℕ, ◌+◌, ◌-◌, ◌<◌, ◌≤◌, min, max, List, ◌++◌, length, take, drop, replicate}
+use Rattle.std.specs.Prelude.{Result, Option, Some, IfOk, OnOk, IsOk}
 use Rattle.std.specs.Option.{ForSome, option_map, IsSome}
 use Rattle.base_core.specs.Causes.{HasCause}
 

@@ -1,5 +1,6 @@
 -- What contracts see of a disk in memory.
-use Rattle.std.specs.Prelude.{◌≡◌, ◌⊎◌, ℕ, ◌+◌, List, [], ◌∷◌, ◌++◌, Option, Some, None, if◌then◌else◌, ◌==◌, Result, is_ok, OnOk, OnErr}
+use Rattle.std.specs.Prelude.{◌≡◌, ◌⊎◌, ℕ, ◌+◌, List, [], ◌∷◌, ◌++◌, Option, Some, None, if◌then◌else◌, ◌==◌, Result}
+use Rattle.std.specs.Prelude.{is_ok, OnOk, OnErr}
 use Rattle.std.specs.Option.{ForSome}
 use Rattle.base_core.specs.Causes.{Rose}
 use Rattle.disk_core.specs.Disk.{DiskState}

@@ -1,5 +1,6 @@
 -- The file and its images, from a log of calls.
-use Rattle.std.specs.Prelude.{◌≡◌, ℕ, ◌+◌, ◌≤◌, Bool, true, false, List, [], ◌∷◌, Option, length, reverse, take, count_by, Contains}
+use Rattle.std.specs.Prelude.{◌≡◌, ℕ, ◌+◌, ◌≤◌, Bool, true, false, List, [], ◌∷◌, Option, length, reverse, take}
+use Rattle.std.specs.Prelude.{count_by, Contains}
 use Rattle.disk_core.specs.Disk.{DiskState, written, Torn}
 use Rattle.disk_core.specs.declared.calls.DiskCall.{DiskCall}
 use Rattle.disk_core.specs.declared.calls.DiskCall.TheVariants.{Length, ReadAt, WriteAt, Sync}

@@ -1,5 +1,5 @@
 //! A disk: one file, by what a read of it gives and by what a crash may leave of it.
-ghost use Rattle.std.specs.Prelude.{◌+◌, ◌^◌, ◌<◌, length};
+ghost use Rattle.std.specs.Prelude.{◌≡◌, ◌+◌, ◌-◌, ◌^◌, ◌<◌, length, min};
 ghost use Rattle.disk_core.specs.Disk.{DiskState, ReadsAsImage, ReturnsLength, ReadsAt, WritesAt, MakesDurable};
 
 use base_core::Failed;
@@ -33,6 +33,10 @@ pub trait Disk {
     /// Makes what was written durable. After `Failed` the file reads as one of the images.
     fn sync(&mut self) -> Result<(), Failed>
         ensures { MakesDurable (state self.old) (state self.new) result };
+
+    /// How often a call has failed so far, or 2^64 - 1 if that is more.
+    fn fault_count(&self) -> u64
+        ensures { result ≡ min (state self.now).faults (2 ^ 64 - 1) };
 
     /// The file as it reads is one of the images.
     ghost reads_as_image: { (disk : Self) → ReadsAsImage (state disk) };

@@ -70,7 +70,7 @@ impl<D: Disk> FusedDisk<D> {
 }
 
 impl<D: Disk> Disk for FusedDisk<D> {
-    ghost use Rattle.std.specs.Prelude.{◌+◌, ◌^◌, length};
+    ghost use Rattle.std.specs.Prelude.{◌+◌, ◌^◌, length, min};
     ghost use Rattle.disk_core.specs.Disk.{ReturnsLength, ReadsAt, WritesAt, MakesDurable};
     ghost use Rattle.disk_core.specs.Fused.{inner_of, Fuses};
 
@@ -109,5 +109,11 @@ impl<D: Disk> Disk for FusedDisk<D> {
     {
         self.spend()?;
         self.inner.sync()
+    }
+
+    fn fault_count(&self) -> u64
+        ensures { result ≡ min (state_by D.state self.now).faults (2 ^ 64 - 1) }
+    {
+        self.inner.fault_count().saturating_add(self.refused)
     }
 }

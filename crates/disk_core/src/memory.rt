@@ -74,9 +74,10 @@ impl MemoryDisk {
         &self.log.calls
     }
 
-    /// Some of the images that a crash may leave now. A byte that was written since the last sync is what was written,
-    /// 0, 1, 2 or 255; a longer piece is whole, missing, half written, or all 255. So each write since then multiplies
-    /// them by four or five. The last one is the file as it reads.
+    /// Some of the images that a crash may leave now. Each write since the last sync is torn on two files: the one that
+    /// has all writes before it, and the one that has none of them. A byte is then what was written, 0, 1, 2, 255 or
+    /// missing; a longer piece is whole, half written, all 255 or missing. So a write adds at most ten images, and they
+    /// aren't multiplied. The last one is the file as it reads.
     pub fn images(&self) -> Result<Images, AllocError>
         ensures images { IfOk result (λ images. All (IsImageNow (state_of self.now)) images) }
         ensures file { IfOk result (λ images. ForSome (content_of self.now) (λ file. Contains images file)) }
@@ -203,5 +204,11 @@ impl Disk for MemoryDisk {
         ensures listed { FollowsList self.old self.new (note DiskCall.Sync result 0 []) result }
     {
         self.pass(DiskCall::Sync, 0)
+    }
+
+    fn fault_count(&self) -> u64
+        ensures { result ≡ min (state_of self.now).faults (2 ^ 64 - 1) }
+    {
+        self.log.failed.saturating_add(self.starved)
     }
 }

@@ -1,8 +1,8 @@
 //! Some of what a crash may make of a write, for tests to open.
 ghost use Rattle.std.specs.Prelude.{◌≡◌, ◌/◌, ◌<◌, ℕ, List, ◌∷◌, ◌++◌, [], length, take, IfOk, OnOk};
 ghost use Rattle.std.specs.List.{All, Contains};
-ghost use Rattle.disk_core.specs.Disk.{written};
-ghost use Rattle.disk_core.specs.Torn.{IsTornOf, IsImageBy};
+ghost use Rattle.disk_core.specs.Disk.{written, Torn};
+ghost use Rattle.disk_core.specs.Torn.{AddsOnly, IsTornOf, IsImageBy};
 ghost use Rattle.disk_core.specs.Past.{file_by};
 
 use crate::memory::overwrite;
@@ -48,7 +48,8 @@ fn copy_of(alloc: Global, before: &Images) -> Result<Images, AllocError>
     Ok(images)
 }
 
-// What a crash may make of each of these images under a write.
+// What a crash may make of these images under a write. They stay, as if the write was missing. The last one, which has
+// the writes before it, is torn by it, and so is the first, which has none since the last sync.
 fn torn_images(
     alloc: Global,
     before: &Images,
@@ -57,14 +58,47 @@ fn torn_images(
 ) -> Result<Images, AllocError>
     ensures { IfOk result (λ images. All (IsTornOf before.now place (length piece.now)) images) }
 {
-    let mut images = Items::new(alloc);
-    'rows: for index in 0..before.len() {
-        push_torn(alloc, &mut images, before, index, place, piece)?;
-    }
+    let mut images = copy_of(alloc, before)?;
+    push_first(alloc, &mut images, before, place, piece)?;
+    push_last(alloc, &mut images, before, place, piece)?;
     Ok(images)
 }
 
-// The same, of one of them.
+// The first image under the write, unless it is the last.
+fn push_first(
+    alloc: Global,
+    images: &mut Images,
+    before: &Images,
+    place: u64,
+    piece: &[u8],
+) -> Result<(), AllocError>
+    ensures { OnOk result (All (IsTornOf before.now place (length piece.now)) images.old
+        → All (IsTornOf before.now place (length piece.now)) images.new) }
+{
+    if before.len() < 2 {
+        return Ok(());
+    }
+    push_torn(alloc, images, before, 0, place, piece)
+}
+
+// The last image under the write.
+fn push_last(
+    alloc: Global,
+    images: &mut Images,
+    before: &Images,
+    place: u64,
+    piece: &[u8],
+) -> Result<(), AllocError>
+    ensures { OnOk result (All (IsTornOf before.now place (length piece.now)) images.old
+        → All (IsTornOf before.now place (length piece.now)) images.new) }
+{
+    if before.is_empty() {
+        return Ok(());
+    }
+    push_torn(alloc, images, before, before.len() - 1, place, piece)
+}
+
+// One of the images under the write, the whole write last.
 fn push_torn(
     alloc: Global,
     images: &mut Images,
@@ -78,7 +112,20 @@ fn push_torn(
         → All (IsTornOf before.now place (length piece.now)) images.new) }
 {
     let old = before.item(index).get();
-    push_part(alloc, images, old, place, piece)?;
+    push_others(alloc, images, old, place, piece)?;
+    push_part(alloc, images, old, place, piece)
+}
+
+// The image with what else a crash may make of a write.
+fn push_others(
+    alloc: Global,
+    images: &mut Images,
+    old: &[u8],
+    place: u64,
+    piece: &[u8],
+) -> Result<(), AllocError>
+    ensures { OnOk result (AddsOnly (Torn place (length piece.now) old.now) images.old images.new) }
+{
     if piece.len() == 1 {
         push_byte(alloc, images, old, place)
     } else {
@@ -97,7 +144,7 @@ fn push_byte(alloc: Global, images: &mut Images, old: &[u8], place: u64) -> Resu
     push_part(alloc, images, old, place, &[255])
 }
 
-// A longer piece may be missing, half written, or other bytes.
+// A longer piece may be half written, or other bytes.
 fn push_piece(
     alloc: Global,
     images: &mut Images,
@@ -106,11 +153,10 @@ fn push_piece(
     piece: &[u8],
 ) -> Result<(), AllocError>
     ensures { OnOk result ((other : List ℕ) × (length other ≡ length piece.now)
-        × (images.new ≡ images.old ++ written place [] old.now
-        ∷ written place (take (length piece.now / 2) piece.now) old.now ∷ written place other old.now ∷ [])) }
+        × (images.new ≡ images.old ++ written place (take (length piece.now / 2) piece.now) old.now
+        ∷ written place other old.now ∷ [])) }
 {
     let other = vec![in alloc; 255; piece.len()]?;
-    push_part(alloc, images, old, place, &[])?;
     push_part(alloc, images, old, place, &piece[..piece.len() / 2])?;
     push_part(alloc, images, old, place, &other)
 }

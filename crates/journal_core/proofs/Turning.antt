@@ -117,29 +117,29 @@ module _ (format : Format) (file : List ℕ) (area side : ℕ) (kept more : List
       ∙ append_assoc (listed Second more) (0 ∷ []) (take (area - length (written_list more)) (drop (place + length (written_list more)) file))
 
   -- the header in its parts
-  front : List ℕ
-  front = magic ++ big_endian area
+  lead : List ℕ
+  lead = magic ++ big_endian area
 
   tail : List ℕ
   tail = replicate 15 0 ++ drop 32 rewritten
 
-  rewritten_is : rewritten ≡ front ++ still.has.side_byte ∷ tail
-  unfolding front tail
+  rewritten_is : rewritten ≡ lead ++ still.has.side_byte ∷ tail
+  unfolding lead tail
   rewritten_is =
       sym (take-append-drop 32 rewritten) ∙ ap (λ (l : List ℕ). l ++ drop 32 rewritten) still.has.prefix
       ∙ ap (λ (l : List ℕ). l ++ drop 32 rewritten) (sym (append_assoc magic (big_endian area) (still.has.side_byte ∷ replicate 15 0)))
       ∙ append_assoc (magic ++ big_endian area) (still.has.side_byte ∷ replicate 15 0) (drop 32 rewritten)
 
-  length-front : length front ≡ 16
-  unfolding front
-  length-front = omega (arith, length-append magic (big_endian area), length-big_endian area)
+  length-lead : length lead ≡ 16
+  unfolding lead
+  length-lead = omega (arith, length-append magic (big_endian area), length-big_endian area)
 
   -- the file with any side byte
   sided : ℕ → List ℕ
-  sided byte = front ++ byte ∷ tail
+  sided byte = lead ++ byte ∷ tail
 
   sided_header : (byte : ℕ) → sided byte ≡ header area byte ++ drop 32 rewritten
-  unfolding sided front tail
+  unfolding sided lead tail
   sided_header byte =
       sym (append_assoc (magic ++ big_endian area) (byte ∷ replicate 15 0) (drop 32 rewritten))
       ∙ ap (λ (l : List ℕ). l ++ drop 32 rewritten) (append_assoc magic (big_endian area) (byte ∷ replicate 15 0))
@@ -186,13 +186,13 @@ module _ (format : Format) (file : List ℕ) (area side : ℕ) (kept more : List
   pub torn_side : (image : List ℕ) → Torn 16 1 rewritten image → HoldsOne format area side kept more image
   unfolding sided
   torn_side image torn =
-      let one = torn_byte front tail image still.has.side_byte 16 length-front (subst (λ (f : List ℕ). Torn 16 1 f image) rewritten_is torn) in
+      let one = torn_byte lead tail image still.has.side_byte 16 length-lead (subst (λ (f : List ℕ). Torn 16 1 f image) rewritten_is torn) in
       subst (HoldsOne format area side kept more) (sym one.1) (sided_holds one.0)
 
   -- after it was turned
   turned_is : turned area side more file ≡ sided other
   unfolding sided
-  turned_is = ap (λ (f : List ℕ). written 16 (other ∷ []) f) rewritten_is ∙ written_after front (still.has.side_byte ∷ tail) (other ∷ []) 16 length-front
+  turned_is = ap (λ (f : List ℕ). written 16 (other ∷ []) f) rewritten_is ∙ written_after lead (still.has.side_byte ∷ tail) (other ∷ []) 16 length-lead
 
   pub turned_holds : HoldsAt Second (turned area side more file) area other more
   turned_holds = subst (λ (f : List ℕ). HoldsAt Second f area other more) (sym turned_is) (record {

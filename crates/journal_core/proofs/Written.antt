@@ -154,11 +154,11 @@ pub room_next : (rs : List Record) (i : ℕ) (r : Record) → i < length rs → 
 room_next rs i r within is = ap room_for (item_more rs i r within is) ∙ room_more (take i rs) (r ∷ []) ∙ omega arith
 
 -- bytes that are put in the middle of others
-pub put_in : (a k : ℕ) (front mid back new : List ℕ) → length front ≡ a → length mid ≡ k → put_mid a k (front ++ (mid ++ back)) new ≡ front ++ (new ++ back)
-put_in a k front mid back new is size =
-    ap (λ (l : List ℕ). l ++ (new ++ drop k (drop a (front ++ (mid ++ back))))) (take_at front (mid ++ back) a is)
-    ∙ ap (λ (l : List ℕ). front ++ (new ++ drop k l)) (drop_at front (mid ++ back) a is)
-    ∙ ap (λ (l : List ℕ). front ++ (new ++ l)) (drop_at mid back k size)
+pub put_in : (a k : ℕ) (before mid after new : List ℕ) → length before ≡ a → length mid ≡ k → put_mid a k (before ++ (mid ++ after)) new ≡ before ++ (new ++ after)
+put_in a k before mid after new is size =
+    ap (λ (l : List ℕ). l ++ (new ++ drop k (drop a (before ++ (mid ++ after))))) (take_at before (mid ++ after) a is)
+    ∙ ap (λ (l : List ℕ). before ++ (new ++ drop k l)) (drop_at before (mid ++ after) a is)
+    ∙ ap (λ (l : List ℕ). before ++ (new ++ l)) (drop_at mid after k size)
 
 -- three numbers, put one after another into 24 zeros
 pub three_fields : (a b c : List ℕ) → length a ≡ 8 → length b ≡ 8

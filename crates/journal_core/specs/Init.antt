@@ -14,7 +14,11 @@ use Rattle.journal_core.specs.declared.create.InitFault.TheVariants.{NotEmpty, D
 abbrev pub new_file : ℕ → ℕ → List ℕ
 new_file first area = first ∷ (drop 1 (header area 0) ++ version_of Second ∷ closed_gate ∷ [])
 
--- the bytes of a new file
+-- the first letter of the text that begins a file
+abbrev pub first_letter : ℕ
+first_letter = 68
+
+-- how many bytes a new file has
 abbrev pub new_length : ℕ
 new_length = 34
 
@@ -41,13 +45,16 @@ pub record Founds (old new : DiskState) : Type 0 where
 abbrev pub HasSynced : DiskState → DiskState → Type 0
 HasSynced old new = (moment : ℕ) × (old.moment < moment) × (moment ≤ new.moment) × new.synced_at moment
 
--- The file was empty, and holds the empty list now. A sync succeeded, and every image is the file.
+-- The file was empty. It is a new file now, whose text is whole, and holds the empty list. A sync succeeded, and every
+-- image is the file.
 pub record MakesFile (before after : DiskState) (area : ℕ) : Type 0 where
   pub empty : ForSome before.content (λ file. file ≡ [])
+  pub bytes : ForSome after.content (λ file. file ≡ new_file first_letter area)
   pub holds : ForSome after.content (λ file. HoldsAt Second file area 0 [])
   pub settled : IsSettled after
   pub crash : ForSome after.content (λ _. Founds before after × HasSynced before after)
   pub count : before.faults ≤ after.faults
+  pub clock : before.moment ≤ after.moment
 
 -- `NotEmpty` comes exactly when the file's length isn't 0, and then nothing was written; so does nothing change in any
 -- file that has bytes. The only other fault is the disk's, which has counted it.
@@ -59,3 +66,4 @@ pub record IsInitRefused (before after : DiskState) (refusal : InitFault) : Type
   pub crash : refusal ≡ DiskFault
       → ForSome after.content (λ _. ForSome before.content (λ file. file ≡ [] → Founds before after))
   pub counted : before.faults ≤ after.faults
+  pub clock : before.moment ≤ after.moment

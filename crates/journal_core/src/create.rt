@@ -4,9 +4,7 @@ ghost use Rattle.std.specs.Option.{ForSome};
 ghost use Rattle.base_core.specs.Causes.{HasCause};
 ghost use Rattle.disk_core.specs.Disk.{IsSettled};
 ghost use Rattle.journal_core.specs.Layout.{least_area, most_area};
-ghost use Rattle.journal_core.specs.File.{HoldsAt};
-ghost use Rattle.journal_core.specs.declared.layout.Format.TheVariants.{Second};
-ghost use Rattle.journal_core.specs.Init.{new_file, Founds, HasSynced, MakesFile, IsInitRefused};
+ghost use Rattle.journal_core.specs.Init.{new_file, first_letter, Founds, HasSynced, MakesFile, IsInitRefused};
 
 use crate::layout::VERSION;
 use crate::steps::write_durably;
@@ -61,8 +59,9 @@ pub fn init<D: Disk>(disk: D, area: u64) -> Result<D, (D, InitFault)>
 fn write_new<D: Disk>(disk: &mut D, area: u64) -> Result<(), Failed>
     requires least { least_area ≤ area }
     requires most { area ≤ most_area }
-    ensures holds { OnOk result (ForSome (D.state disk.old).content (λ file. file ≡ []
-        → ForSome (D.state disk.new).content (λ new. HoldsAt Second new area 0 []))) }
+    ensures bytes { OnOk result (ForSome (D.state disk.old).content (λ file. file ≡ []
+        → ForSome (D.state disk.new).content (λ new. new ≡ new_file first_letter area))) }
+    ensures clock { (D.state disk.old).moment ≤ (D.state disk.new).moment }
     ensures settled { OnOk result (IsSettled (D.state disk.new)) }
     ensures reported { ForSome (D.state disk.new).content (λ _. IsSome (D.state disk.old).content) }
     ensures crash { ForSome (D.state disk.new).content (λ _. ForSome (D.state disk.old).content (λ file. file ≡ []

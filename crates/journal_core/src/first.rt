@@ -28,7 +28,7 @@ impl<D: Disk> FirstJournal<D> {
     /// Writes these records in format 2 into the other area, turns the side to it, and returns the journal of format 2
     /// once that is durable. A crash leaves the list of format 1 or these records. It takes no memory.
     ///
-    /// `Full` comes exactly when the records, 57 bytes and its body each, don't fit behind a version byte and before a
+    /// `Full` comes exactly when the records, 57 bytes and its body each, don't fit between a version byte and a
     /// closed gate; it has 2 for `used`. `DiskFault` comes only if the disk failed in this call.
     pub fn migrate(self, entries: &Records) -> Result<Journal<D>, (D, CommitFault)>
         requires numbers { All IsNumbered entries.now }

@@ -58,10 +58,10 @@ pub struct Journal<D: Disk> {
 }
 
 impl<D: Disk> Journal<D> {
-    ghost use Rattle.std.specs.Prelude.{List, ℕ};
+    ghost use Rattle.std.specs.Prelude.{List, ℕ, [], IsOk};
     ghost use Rattle.std.specs.List.{All};
     ghost use Rattle.journal_core.specs.Layout.{most_number};
-    ghost use Rattle.journal_core.specs.Journal.{disk_of, area_of, side_of, used_of, gate_of, one, IsNumbered};
+    ghost use Rattle.journal_core.specs.Journal.{disk_of, state_of, area_of, side_of, used_of, gate_of, one, IsNumbered};
     ghost use Rattle.journal_core.specs.Journal.{HasCommitCause, SurvivesCommit, Adds, StaysInPlace};
     ghost use Rattle.journal_core.specs.Compact.{HasCompactCause, SurvivesCompact, Replaces};
     ghost use Rattle.journal_core.specs.First.{OpensFirst};
@@ -160,6 +160,7 @@ impl<D: Disk> Journal<D> {
         ensures cause { HasCommitCause self.old self.new entries.now result }
         ensures crash { SurvivesCommit self.old self.new entries.now }
         ensures added { IfOk result (λ moment. Adds self.old self.new entries.now moment.number) }
+        ensures none { entries.now ≡ [] → IsOk result }
         ensures place { StaysInPlace self.old self.new }
     {
         if entries.is_empty() {
@@ -184,7 +185,7 @@ impl<D: Disk> Journal<D> {
     /// keeps these records and no others. A crash leaves the list from before or these records. It takes no memory, and
     /// writes in pieces of 64 KiB or more.
     ///
-    /// `Full` comes exactly when the records, 57 bytes and its body each, don't fit behind a version byte and before a
+    /// `Full` comes exactly when the records, 57 bytes and its body each, don't fit between a version byte and a
     /// closed gate; it has 2 for `used`.
     pub fn compact(&mut self, entries: &Records) -> Result<Moment, CommitFault>
         requires numbers { All IsNumbered entries.now }
@@ -234,6 +235,13 @@ impl<D: Disk> Journal<D> {
         ensures { result ≡ side_of self.now }
     {
         self.side
+    }
+
+    /// The disk's clock now, as the moment of what was not committed.
+    pub fn moment(&self) -> Moment
+        ensures { result.number ≡ (state_of self.now).moment }
+    {
+        Moment::of(&self.disk)
     }
 
     /// The disk, lent.

@@ -84,4 +84,8 @@ impl Disk for FileDisk {
             Err(error) => Err(self.faults.count(error)),
         }
     }
+
+    fn fault_count(&self) -> u64 {
+        self.faults.so_far()
+    }
 }

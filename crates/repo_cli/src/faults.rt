@@ -1,5 +1,5 @@
 //! The faults of an object of the outside, and calls that a signal interrupted.
-ghost use Rattle.std.specs.Prelude.{◌≡◌, ◌≤◌};
+ghost use Rattle.std.specs.Prelude.{◌≡◌, ◌≤◌, ◌<◌, ◌^◌};
 ghost use Rattle.std.specs.Io.{ReadsAtMost, WritesAtMost};
 ghost use Rattle.base_core.specs.Causes.{Counts};
 ghost use Rattle.link_core.specs.Link.{Takes as TakesSome};
@@ -35,6 +35,14 @@ impl Faults {
         self.count = counted(self.count);
         self.last = Some(error);
         Failed
+    }
+
+    /// How many there were, or 2^64 - 1 if there were more.
+    pub fn so_far(&self) -> u64
+        ensures count { result ≡ count_of self.now }
+        ensures small { result < 2 ^ 64 }
+    {
+        self.count
     }
 
     /// What the system said of the last fault.

@@ -1,59 +1,104 @@
 //! Crashes at every call of a run, with every image that is listed opened again.
+ghost use Rattle.std.specs.List.{All};
+ghost use Rattle.journal_core.specs.Journal.{IsNumbered};
+
 use super::damage::{file_with_record, outcome_of};
-use super::stamp;
-use crate::{Journal, OpenFault, init};
+use super::{stamp, three};
+use crate::{Journal, OpenFault, Records, init};
 use disk_core::{Disk, FusedDisk, MemoryDisk};
 use std::alloc::Global;
-use std::process::Abort;
 use std::test::Fail;
 
-// Opens a journal and adds up to four bodies of three bytes. Returns the disk, and how many were acknowledged.
-fn add_four<D: Disk>(alloc: Global, disk: D) -> (D, u8) {
-    let mut journal = match Journal::open(alloc, disk) {
-        Ok((journal, _)) => journal,
-        Err((disk, _)) => return (disk, 0),
-    };
-    'bodies: for number in 0..4u8 {
-        match journal.commit(stamp(number as u64 + 1), &[number; 3]) {
-            Ok(_) => {}
-            Err(_) => return (journal.into_disk(), number),
-        }
-    }
-    (journal.into_disk(), 4)
+/// How many commits a run makes before its compaction.
+const COMMITS: u8 = 30;
+
+// What a run was told: how many commits were done, and whether the compaction was.
+#[derive(Drop)]
+struct Told {
+    commits: u8,
+    compacted: bool,
 }
 
-// The image holds the bodies that `add_four` acknowledged, and at most one more.
-fn check(rt: &impl Abort, alloc: Global, image: &[u8], acknowledged: u8) -> Result<(), Fail> {
-    let Ok((_, records)) = Journal::open(alloc, MemoryDisk::new(alloc, image, &[])?) else {
-        return Err("an image is refused".into());
+// Opens a journal, adds thirty bodies of three bytes, and compacts to other records, as far as the disk lets it.
+fn run<D: Disk>(alloc: Global, disk: D, entries: &Records) -> (D, Told)
+    requires { All IsNumbered entries.now }
+{
+    let mut told = Told {
+        commits: 0,
+        compacted: false,
     };
-    assert!(rt; records.len() >= acknowledged as usize);
-    assert!(rt; records.len() <= acknowledged as usize + 1);
-    for index in 0..records.len() {
-        assert!(rt; index < 4);
-        assert_eq!(rt; records.item(index).body.get(), [index as u8; 3].as_slice());
+    let mut journal = match Journal::open(alloc, disk) {
+        Ok((journal, _)) => journal,
+        Err((disk, _)) => return (disk, told),
+    };
+    'bodies: for number in 0..COMMITS {
+        match journal.commit(stamp(number as u64 + 1), &[number; 3]) {
+            Ok(_) => told.commits = number + 1,
+            Err(_) => return (journal.into_disk(), told),
+        }
     }
-    Ok(())
+    told.compacted = journal.compact(entries).is_ok();
+    (journal.into_disk(), told)
+}
+
+// Whether these are the first bodies of a run.
+fn are_first(records: &Records) -> bool {
+    'rows: for index in 0..records.len() {
+        let body = records.item(index).body.get();
+        if body.len() != 3 || body.iter().any(|byte| *byte as usize != index) {
+            return false;
+        }
+    }
+    true
+}
+
+// Whether the image holds what the run was told, and at most the change that was under way.
+fn holds_told(alloc: Global, image: &[u8], told: &Told) -> Result<bool, Fail> {
+    let Ok((_, records)) = Journal::open(alloc, MemoryDisk::new(alloc, image, &[])?) else {
+        return Ok(false);
+    };
+    let count = records.len();
+    let commits = told.commits as usize;
+    let new = told.commits == COMMITS && count == 3 && !are_first(&records);
+    let old = !told.compacted && count >= commits && count <= commits + 1 && are_first(&records);
+    Ok(new || old)
 }
 
 #[test]
-fn every_image_of_four_commits_is_the_list_so_far(rt: HostRuntime) -> Result<(), Fail> {
+fn every_image_of_thirty_commits_and_a_compaction_is_a_list_so_far(
+    rt: HostRuntime,
+) -> Result<(), Fail> {
     let alloc = rt.alloc();
-    // Four calls open the file and six make a commit, so the last run meets no fault.
-    for passes in 0..29 {
-        let Ok(made) = init(MemoryDisk::new(alloc, &[], &[])?, 300) else {
-            return Err("no file was made".into());
-        };
-        let (fused, acknowledged) = add_four(alloc, FusedDisk::new(made, passes));
-        let disk = fused.into_inner();
-        assert_eq!(rt; acknowledged == 4, passes == 28);
-        let images = disk.images()?;
-        for index in 0..images.len() {
-            check(&rt, alloc, images.item(index).get(), acknowledged)?;
-        }
-        check(&rt, alloc, disk.file(), acknowledged)?;
+    let entries = three(alloc)?;
+    // Four calls open the file, six make a commit and four the compaction, so the last run meets no fault.
+    for passes in 0..189 {
+        let (disk, told) = run(alloc, FusedDisk::new(new_disk(alloc)?, passes), &entries);
+        assert_eq!(rt; told.compacted, passes == 188);
+        assert!(rt;
+            all_hold(alloc, &disk.into_inner(), &told)?,
+            "{passes} calls"
+        );
     }
     Ok(())
+}
+
+// A disk with a new file.
+fn new_disk(alloc: Global) -> Result<MemoryDisk, Fail> {
+    match init(MemoryDisk::new(alloc, &[], &[])?, 2048) {
+        Ok(made) => Ok(made),
+        Err(_) => Err("no file was made".into()),
+    }
+}
+
+// Whether each image that is listed holds what the run was told.
+fn all_hold(alloc: Global, disk: &MemoryDisk, told: &Told) -> Result<bool, Fail> {
+    let images = disk.images()?;
+    for index in 0..images.len() {
+        if !holds_told(alloc, images.item(index).get(), told)? {
+            return Ok(false);
+        }
+    }
+    Ok(true)
 }
 
 #[test]

@@ -1,8 +1,12 @@
 //! Compaction and migration: their bytes, their calls, and each failed call.
+ghost use Rattle.std.specs.Prelude.{IfOk};
+ghost use Rattle.std.specs.List.{All};
+ghost use Rattle.journal_core.specs.Journal.{IsNumbered};
+
 use super::{bytes_of, file_of, journal_on, stamp, three};
-use crate::{CommitFault, Journal, OpenFault, Room};
-use base_core::Items;
-use disk_core::{DiskCall, FusedDisk, MemoryDisk};
+use crate::{CommitFault, Journal, OpenFault, Record, Records, Room};
+use base_core::{Bytes, Items};
+use disk_core::{Disk, DiskCall, Failing, FusedDisk, MemoryDisk};
 use std::alloc::Global;
 use std::test::Fail;
 
@@ -118,5 +122,100 @@ fn every_image_of_a_migration_is_one_of_two_lists(rt: HostRuntime) -> Result<(),
             assert!(rt; second || !done);
         }
     }
+    Ok(())
+}
+
+#[test]
+fn what_does_not_fit_is_not_migrated(rt: HostRuntime) -> Result<(), Fail> {
+    let alloc = rt.alloc();
+    let file = file_of(alloc, 147, 0, b"\x01\0")?;
+    let Ok((first, _)) = Journal::open_first(alloc, MemoryDisk::new(alloc, &file, &[])?) else {
+        return Err("not opened".into());
+    };
+    // A counter's body and an object's, each with its 57 bytes.
+    let Err((disk, fault)) = first.migrate(&records_of(alloc, 9, 165)?) else {
+        return Err("migrated".into());
+    };
+    let full = CommitFault::Full {
+        used: 2,
+        asked: 288,
+    };
+    assert_eq!(rt; fault, full);
+    assert_eq!(rt; disk.file(), file.as_slice());
+    Ok(())
+}
+
+#[test]
+fn a_journal_of_format_1_gives_its_disk_back(rt: HostRuntime) -> Result<(), Fail> {
+    let alloc = rt.alloc();
+    let file = first_file(alloc)?;
+    let Ok((first, _)) = Journal::open_first(alloc, MemoryDisk::new(alloc, &file, &[])?) else {
+        return Err("not opened".into());
+    };
+    let disk = first.into_disk();
+    assert_eq!(rt; disk.file(), file.as_slice());
+    Ok(())
+}
+
+#[test]
+fn a_failed_call_in_a_compaction_is_a_disk_fault(rt: HostRuntime) -> Result<(), Fail> {
+    let alloc = rt.alloc();
+    // The writes and syncs of `init` come first: two of each.
+    for (call, nth) in [
+        (DiskCall::WriteAt, 3),
+        (DiskCall::Sync, 3),
+        (DiskCall::WriteAt, 4),
+        (DiskCall::Sync, 4),
+    ] {
+        let disk = MemoryDisk::new(alloc, &[], &[Failing { call, nth }])?;
+        let mut journal = journal_on(alloc, disk, 256)?;
+        let fault = journal.compact(&three(alloc)?).err();
+        assert_eq!(rt; fault, Some(CommitFault::DiskFault), "call {nth}");
+        assert_eq!(rt; journal.disk().fault_count(), 1);
+        assert_eq!(rt; journal.side(), 0);
+    }
+    Ok(())
+}
+
+// Two records with bodies of these lengths.
+fn records_of(alloc: Global, first: usize, second: usize) -> Result<Records, Fail>
+    ensures { IfOk result (λ entries. All IsNumbered entries) }
+{
+    let first = Bytes::from(vec![in alloc; 7; first]?);
+    let second = Bytes::from(vec![in alloc; 7; second]?);
+    let mut entries = Items::new(alloc);
+    entries.push(Record {
+        stamp: stamp(1),
+        body: first,
+    })?;
+    entries.push(Record {
+        stamp: stamp(1),
+        body: second,
+    })?;
+    Ok(entries)
+}
+
+// The lengths of the writes of a compaction to records with a body of this length and an empty one.
+fn pieces_of(alloc: Global, length: usize) -> Result<Vec<usize>, Fail> {
+    let mut journal = journal_on(alloc, MemoryDisk::new(alloc, &[], &[])?, 400_000)?;
+    let before = journal.disk().calls().len();
+    let mut lengths = Vec::new(alloc);
+    if journal.compact(&records_of(alloc, length, 0)?).is_ok() {
+        for noted in journal.disk().calls().iter().skip(before) {
+            lengths.push(noted.bytes.get().len())?;
+        }
+    }
+    Ok(lengths)
+}
+
+#[test]
+fn pieces_are_of_64_kib_or_more(rt: HostRuntime) -> Result<(), Fail> {
+    let alloc = rt.alloc();
+    // Version, gate and fields are 26 bytes, and 90 come after the body: its digest, an empty record and a closed gate.
+    // Then there are a sync, the side byte and a sync.
+    let small = pieces_of(alloc, 65_536)?;
+    assert_eq!(rt; small.as_slice(), [65_536, 116, 0, 1, 0].as_slice());
+    let large = pieces_of(alloc, 200_000)?;
+    assert_eq!(rt; large.as_slice(), [65_536, 134_490, 90, 0, 1, 0].as_slice());
     Ok(())
 }

@@ -1,11 +1,9 @@
-use Rattle.std.proofs.Common.{◌≡◌, ℕ, ◌≤◌, false, true, List, [], length, Some, ◌∙◌, ap, subst, arith, rules}
+use Rattle.std.proofs.Common.{◌≡◌, ℕ, ◌≤◌, sym, false, true, List, length, Some, ◌∙◌, ap, subst, arith, rules}
 use Rattle.disk_core.specs.Disk.{written, Torn}
 use Rattle.disk_core.specs.Runs.{Spans}
 use Rattle.disk_core.proofs.RunLaws.{reported}
-use Rattle.journal_core.specs.File.{HoldsAt}
-use Rattle.journal_core.specs.declared.layout.Format.TheVariants.{Second}
 use Rattle.journal_core.specs.Init.{new_file, new_length}
-use Rattle.journal_core.proofs.Founding.{written_first, written_text, holds_new, founds_first, founds_second, ends_synced, length-new_file}
+use Rattle.journal_core.proofs.Founding.{written_first, written_text, founds_first, founds_second, ends_synced, length-new_file}
 use Rattle.journal_core.proofs.Results.{some_same, on_ok}
 use Rattle.journal_core.proofs.create.write_new.Goals as goal
 
@@ -22,15 +20,13 @@ returns-in_err-write_durably-clause-crash g c = λ last now file is empty.
       search rules,
     )
 
-pub returns-clause-holds : goal.returns-clause-holds
-returns-clause-holds g c = on_ok c.write_durably-2.result (λ wrote file is empty last now.
+pub returns-clause-bytes : goal.returns-clause-bytes
+returns-clause-bytes g c = on_ok c.write_durably-2.result (λ wrote file is empty last now.
     let bytes = c.first_bytes-bytes.result in
     let first =
     c.in_ok-write_durably.ensures.writes.writes.puts file is ∙ ap (λ (l : List ℕ). Some (written 0 bytes l)) empty ∙ ap Some (written_first bytes ∙ c.first_bytes-bytes.ensures) in
     let second = wrote (new_file 0 c.args.area) first ∙ ap Some (written_text c.args.area) in
-    subst (λ (f : List ℕ). HoldsAt Second f c.args.area 0 [])
-    (some_same (g.D.Disk.state c.write_durably-2.new.disk).content (new_file 68 c.args.area) last second now)
-    (holds_new c.args.area c.requires.least c.requires.most)) c.write_durably-2.ensures.writes.writes.puts
+    sym (some_same (g.D.Disk.state c.write_durably-2.new.disk).content (new_file 68 c.args.area) last second now)) c.write_durably-2.ensures.writes.writes.puts
 
 pub returns-clause-reported : goal.returns-clause-reported
 returns-clause-reported g c = λ last now.

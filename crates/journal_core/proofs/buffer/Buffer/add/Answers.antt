@@ -28,12 +28,12 @@ returns-in_err-flush g c =
     let b0 = c.args.self.now in
     let piece = c.args.piece.now in
     let b1 = c.keep-2.new.self in
-    let front = c.split_at.result.0.now in
+    let prefix = c.split_at.result.0.now in
     let rest = c.split_at.result.1.now in
     let mid = state c.flush.new.disk in
     let n : ℕ = b0.count + length piece in
-    let split : front ++ rest ≡ piece = split_is _ piece front rest c.split_at.ensures.front c.split_at.ensures.back in
-    let sizes : length front + length rest ≡ length piece = sym (length-append front rest) ∙ ap length split in
+    let split : prefix ++ rest ≡ piece = split_is _ piece prefix rest c.split_at.ensures.front c.split_at.ensures.back in
+    let sizes : length prefix + length rest ≡ length piece = sym (length-append prefix rest) ∙ ap length split in
     let run = wider old mid b0.start n b1.start (length (held_in b1)) (omega (arith, c.keep-2.ensures.start)) (omega (arith, c.keep-2.ensures.start, c.keep-2.ensures.count, length-held b1, sizes)) c.flush.ensures.writes.crash in
     gathers_failed old mid b0 c.flush.new.self piece _ c.from_residual.ensures.0 run c.flush.ensures.writes.clock c.flush.ensures.writes.cause.later c.in_err-flush.ensures.writes.cause.failed
 
@@ -44,22 +44,22 @@ returns-then-rest-lt-PIECE_LENGTH g c =
     let b0 = c.args.self.now in
     let piece = c.args.piece.now in
     let b1 = c.keep-2.new.self in
-    let front = c.split_at.result.0.now in
+    let prefix = c.split_at.result.0.now in
     let rest = c.split_at.result.1.now in
     let mid = state c.flush.new.disk in
     let n : ℕ = b0.count + length piece in
-    let split : front ++ rest ≡ piece = split_is _ piece front rest c.split_at.ensures.front c.split_at.ensures.back in
-    let sizes : length front + length rest ≡ length piece = sym (length-append front rest) ∙ ap length split in
+    let split : prefix ++ rest ≡ piece = split_is _ piece prefix rest c.split_at.ensures.front c.split_at.ensures.back in
+    let sizes : length prefix + length rest ≡ length piece = sym (length-append prefix rest) ∙ ap length split in
     let run = wider old mid b0.start n b1.start (length (held_in b1)) (omega (arith, c.keep-2.ensures.start)) (omega (arith, c.keep-2.ensures.start, c.keep-2.ensures.count, length-held b1, sizes)) c.flush.ensures.writes.crash in
     let b2 = c.flush.new.self in
     let flush = c.in_ok-flush.ensures in
-    let first = gathered_then old old mid b0 b1 b2 front [] (gathered_keep old b0 b1 front c.keep-2.ensures.start c.keep-2.ensures.count c.keep-2.ensures.held)
+    let first = gathered_then old old mid b0 b1 b2 prefix [] (gathered_keep old b0 b1 prefix c.keep-2.ensures.start c.keep-2.ensures.count c.keep-2.ensures.held)
     (gathered_flush old mid b1 b2 flush.writes.puts flush.start flush.count) in
-    let whole : (front ++ []) ++ rest ≡ piece = ap (λ (l : List ℕ). l ++ rest) (append-nil front) ∙ split in
+    let whole : (prefix ++ []) ++ rest ≡ piece = ap (λ (l : List ℕ). l ++ rest) (append-nil prefix) ∙ split in
     let b3 = c.keep-then-rest-lt-PIECE_LENGTH.new.self in
     let kept = c.keep-then-rest-lt-PIECE_LENGTH.ensures in
     record {
-      gathered = subst (Gathered old mid b0 b3) whole (gathered_then old mid mid b0 b2 b3 (front ++ []) rest first (gathered_keep mid b2 b3 rest kept.start kept.count kept.held));
+      gathered = subst (Gathered old mid b0 b3) whole (gathered_then old mid mid b0 b2 b3 (prefix ++ []) rest first (gathered_keep mid b2 b3 rest kept.start kept.count kept.held));
       crash = run;
       clock = c.flush.ensures.writes.clock;
       cause = record { later = c.flush.ensures.writes.cause.later; failed = tt };
@@ -72,21 +72,21 @@ returns-in_err-write_at g c =
     let b0 = c.args.self.now in
     let piece = c.args.piece.now in
     let b1 = c.keep-2.new.self in
-    let front = c.split_at.result.0.now in
+    let prefix = c.split_at.result.0.now in
     let rest = c.split_at.result.1.now in
     let mid = state c.flush.new.disk in
     let n : ℕ = b0.count + length piece in
-    let split : front ++ rest ≡ piece = split_is _ piece front rest c.split_at.ensures.front c.split_at.ensures.back in
-    let sizes : length front + length rest ≡ length piece = sym (length-append front rest) ∙ ap length split in
+    let split : prefix ++ rest ≡ piece = split_is _ piece prefix rest c.split_at.ensures.front c.split_at.ensures.back in
+    let sizes : length prefix + length rest ≡ length piece = sym (length-append prefix rest) ∙ ap length split in
     let run = wider old mid b0.start n b1.start (length (held_in b1)) (omega (arith, c.keep-2.ensures.start)) (omega (arith, c.keep-2.ensures.start, c.keep-2.ensures.count, length-held b1, sizes)) c.flush.ensures.writes.crash in
     let b2 = c.flush.new.self in
     let flush = c.in_ok-flush.ensures in
-    let first = gathered_then old old mid b0 b1 b2 front [] (gathered_keep old b0 b1 front c.keep-2.ensures.start c.keep-2.ensures.count c.keep-2.ensures.held)
+    let first = gathered_then old old mid b0 b1 b2 prefix [] (gathered_keep old b0 b1 prefix c.keep-2.ensures.start c.keep-2.ensures.count c.keep-2.ensures.held)
     (gathered_flush old mid b1 b2 flush.writes.puts flush.start flush.count) in
-    let whole : (front ++ []) ++ rest ≡ piece = ap (λ (l : List ℕ). l ++ rest) (append-nil front) ∙ split in
+    let whole : (prefix ++ []) ++ rest ≡ piece = ap (λ (l : List ℕ). l ++ rest) (append-nil prefix) ∙ split in
     let new = state c.write_at.new.self in
     let write = one_write mid new b2.start rest _ c.write_at.ensures in
-    let all = tears_in old mid new b0.start n b2.start (length rest) first.low (omega (arith, first.end, flush.count, sizes, ap length (append-nil front))) run write.crash in
+    let all = tears_in old mid new b0.start n b2.start (length rest) first.low (omega (arith, first.end, flush.count, sizes, ap length (append-nil prefix))) run write.crash in
     gathers_failed old new b0 b2 piece _ c.from_residual-in_err-write_at.ensures.0 all (omega (arith, c.flush.ensures.writes.clock, write.clock))
     (omega (arith, c.flush.ensures.writes.cause.later, write.cause.later)) (omega (arith, c.flush.ensures.writes.cause.later, c.in_err-write_at.ensures.cause.failed))
 
@@ -97,24 +97,24 @@ returns g c =
     let b0 = c.args.self.now in
     let piece = c.args.piece.now in
     let b1 = c.keep-2.new.self in
-    let front = c.split_at.result.0.now in
+    let prefix = c.split_at.result.0.now in
     let rest = c.split_at.result.1.now in
     let mid = state c.flush.new.disk in
     let n : ℕ = b0.count + length piece in
-    let split : front ++ rest ≡ piece = split_is _ piece front rest c.split_at.ensures.front c.split_at.ensures.back in
-    let sizes : length front + length rest ≡ length piece = sym (length-append front rest) ∙ ap length split in
+    let split : prefix ++ rest ≡ piece = split_is _ piece prefix rest c.split_at.ensures.front c.split_at.ensures.back in
+    let sizes : length prefix + length rest ≡ length piece = sym (length-append prefix rest) ∙ ap length split in
     let run = wider old mid b0.start n b1.start (length (held_in b1)) (omega (arith, c.keep-2.ensures.start)) (omega (arith, c.keep-2.ensures.start, c.keep-2.ensures.count, length-held b1, sizes)) c.flush.ensures.writes.crash in
     let b2 = c.flush.new.self in
     let flush = c.in_ok-flush.ensures in
-    let first = gathered_then old old mid b0 b1 b2 front [] (gathered_keep old b0 b1 front c.keep-2.ensures.start c.keep-2.ensures.count c.keep-2.ensures.held)
+    let first = gathered_then old old mid b0 b1 b2 prefix [] (gathered_keep old b0 b1 prefix c.keep-2.ensures.start c.keep-2.ensures.count c.keep-2.ensures.held)
     (gathered_flush old mid b1 b2 flush.writes.puts flush.start flush.count) in
-    let whole : (front ++ []) ++ rest ≡ piece = ap (λ (l : List ℕ). l ++ rest) (append-nil front) ∙ split in
+    let whole : (prefix ++ []) ++ rest ≡ piece = ap (λ (l : List ℕ). l ++ rest) (append-nil prefix) ∙ split in
     let new = state c.write_at.new.self in
     let write = one_write mid new b2.start rest _ c.write_at.ensures in
-    let all = tears_in old mid new b0.start n b2.start (length rest) first.low (omega (arith, first.end, flush.count, sizes, ap length (append-nil front))) run write.crash in
+    let all = tears_in old mid new b0.start n b2.start (length rest) first.low (omega (arith, first.end, flush.count, sizes, ap length (append-nil prefix))) run write.crash in
     let wrote = one_write mid new b2.start rest _ c.in_ok-write_at.ensures in
     record {
-      gathered = subst (Gathered old new b0 _) whole (gathered_then old mid new b0 b2 _ (front ++ []) rest first (gathered_write mid new b2 _ rest wrote.puts flush.count refl flush.count));
+      gathered = subst (Gathered old new b0 _) whole (gathered_then old mid new b0 b2 _ (prefix ++ []) rest first (gathered_write mid new b2 _ rest wrote.puts flush.count refl flush.count));
       crash = all;
       clock = omega (arith, c.flush.ensures.writes.clock, write.clock);
       cause = record { later = omega (arith, c.flush.ensures.writes.cause.later, write.cause.later); failed = tt };

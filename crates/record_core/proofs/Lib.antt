@@ -1,0 +1,9 @@
+pub mod Numbers
+pub mod Heads
+pub mod Results
+pub mod Found
+pub mod Forms
+pub mod Listed
+pub mod Bodies
+pub mod Unique
+pub mod Written
