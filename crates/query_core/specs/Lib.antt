@@ -1,3 +1,5 @@
+pub mod Query
+pub mod Levels
 pub mod Parts
 pub mod Sorting
 pub mod Order

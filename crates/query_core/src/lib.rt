@@ -9,12 +9,16 @@
 #![tactic(auto)]
 
 mod hits;
+mod matching;
 mod order;
 mod parts;
+mod query;
 mod sorting;
 #[cfg(test)]
 mod tests;
 
 pub use hits::{Hits, page};
+pub use matching::matches;
 pub use order::{Order, SortKey};
+pub use query::{Query, Token};
 pub use sorting::{OrderFault, order_of};
