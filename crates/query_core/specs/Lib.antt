@@ -1,6 +1,10 @@
 pub mod Query
 pub mod Levels
 pub mod Parts
+pub mod Spelling
+pub mod Faults
+pub mod Stages
+pub mod Reading
 pub mod Sorting
 pub mod Order
 pub mod Page

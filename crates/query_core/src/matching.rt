@@ -3,13 +3,11 @@ ghost use Rattle.std.specs.Prelude.{◌≡◌, ◌<◌, ◌++◌, ◌∷◌, [],
 ghost use Rattle.query_core.specs.Query.{Disjunction, IsQuery, holds};
 ghost use Rattle.query_core.specs.Levels.{fresh, known, turned, next_conjunction, joined};
 
+use crate::nesting::DEEPEST;
 use crate::query::{Query, Token};
 use dobj_field::reaches;
 use dobj_model::Object;
 use std::marker::Model;
-
-/// The most constructs that are open at a place of a query.
-const DEEPEST: usize = 64;
 
 /// What is known at one level of parentheses.
 #[derive(Clone, Copy)]

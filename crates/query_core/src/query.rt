@@ -49,6 +49,14 @@ impl Model for Query {
 }
 
 impl Query {
+    // The query that these tokens are.
+    pub(crate) fn of(tokens: Vec<Token>) -> Query
+        requires { (query : Disjunction) × IsQuery tokens.items query }
+        ensures { result ≡ tokens.items }
+    {
+        Query { tokens }
+    }
+
     /// The tokens, in order.
     pub fn tokens(&self) -> &[Token]
         ensures tokens { result.now ≡ self.now }
