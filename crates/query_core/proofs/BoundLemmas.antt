@@ -16,7 +16,7 @@ pub record AfterBound (N : Bool → List ℕ → Type 0) : Type 0 where
   pub lax : (more : List ℕ) × N false more
   pub blunt : (strict : Bool) (text : List ℕ) → N strict text → no_digit text ≡ true
 
-not_both : (b : Bool) → b ≡ true → not b ≡ true → ⊥
+pub not_both : (b : Bool) → b ≡ true → not b ≡ true → ⊥
 not_both true is wrong = cc
 not_both false is wrong = cc
 
@@ -62,7 +62,7 @@ numeral_of : (bytes : List ℕ) (number : ℤ) → IsNumeral bytes number → Nu
 numeral_of bytes number (digits, are, inl is) = record { minus = false; digits = digits; are = are; bytes_are = is.0; number_is = is.1 }
 numeral_of bytes number (digits, are, inr is) = record { minus = true; digits = digits; are = are; bytes_are = is.0; number_is = is.1 }
 
-no_minus : (digits more rest : List ℕ) → AreDigits digits → digits ++ more ≡ 45 ∷ rest → ⊥
+pub no_minus : (digits more rest : List ℕ) → AreDigits digits → digits ++ more ≡ 45 ∷ rest → ⊥
 no_minus [] more rest are same = are.0 refl
 no_minus (x ∷ digits) more rest are same =
     let byte : x ≡ 45 = cc in

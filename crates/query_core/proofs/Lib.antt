@@ -4,6 +4,7 @@ pub mod PageLemmas
 pub mod PartLemmas
 pub mod FieldLemmas
 pub mod SortingLemmas
+pub mod KeyLemmas
 pub mod Languages
 pub mod StageLemmas
 pub mod TextLemmas
@@ -21,3 +22,4 @@ pub mod TestLemmas
 pub mod TokenReads
 pub mod TreeLemmas
 pub mod ReadLemmas
+pub mod NumberLemmas

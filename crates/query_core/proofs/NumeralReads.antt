@@ -23,7 +23,7 @@ pub digits_more : (rest : List ℕ) (at : ℕ) → all_digits (take at rest) ≡
 digits_more rest at all inside digit =
     ap all_digits (take_more rest at 0 inside) ∙ digits_on (take at rest) (get_or rest at 0 ∷ []) all (ap (λ d. d && true) digit)
 
-digits_after : (digits : List ℕ) (at : ℕ) → all_digits digits ≡ true → all_digits (drop at digits) ≡ true
+pub digits_after : (digits : List ℕ) (at : ℕ) → all_digits digits ≡ true → all_digits (drop at digits) ≡ true
 digits_after digits at all = second (take at digits) (drop at digits) (ap all_digits (take-append-drop at digits) ∙ all)
   where
     second : (a b : List ℕ) → all_digits (a ++ b) ≡ true → all_digits b ≡ true

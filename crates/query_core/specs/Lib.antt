@@ -8,3 +8,4 @@ pub mod Reading
 pub mod Sorting
 pub mod Order
 pub mod Page
+pub mod PageNumber

@@ -14,8 +14,10 @@
 
 mod fault;
 mod hits;
+mod law;
 mod matching;
 mod nesting;
+mod numbers;
 mod order;
 mod parts;
 mod query;
@@ -30,7 +32,9 @@ mod value;
 
 pub use fault::QueryFault;
 pub use hits::{Hits, page};
+pub use law::one_list_of_keys;
 pub use matching::matches;
+pub use numbers::page_number;
 pub use order::{Order, SortKey};
 pub use query::{Query, Token};
 pub use reading::query_of;

@@ -98,14 +98,14 @@ fn numeral_at(bytes: &[u8], at: usize, minus: bool) -> Result<(Option<Num>, usiz
     }
 }
 
-fn sign_len(minus: bool) -> usize
+pub(crate) fn sign_len(minus: bool) -> usize
     ensures { result ≡ sign_len minus }
 {
     if minus { 1 } else { 0 }
 }
 
 // How many digits stand at the head.
-fn digits_len(rest: &[u8]) -> usize
+pub(crate) fn digits_len(rest: &[u8]) -> usize
     ensures { IsDigitRun rest.now result }
 {
     let mut len = 0;
@@ -122,7 +122,7 @@ fn is_digit(byte: u8) -> bool
 }
 
 // The number that digits write, if it is in range.
-fn number_of(digits: &[u8], minus: bool) -> Option<Num>
+pub(crate) fn number_of(digits: &[u8], minus: bool) -> Option<Num>
     requires { all_digits digits.now ≡ true }
     ensures { SomeIff result (IsWhole (signed_number minus (number_after 0 digits.now))) (signed_number minus (number_after 0 digits.now)) }
 {
