@@ -36,7 +36,7 @@ is_false false never = refl
 not_stop : (stop : Stop) → EndsFields stop → (x : ℕ) → stands_apart x ≡ false → stops stop x ≡ false
 not_stop stop ends x plain = is_false (stops stop x) (λ holds. true≢false (sym (ends x holds) ∙ plain))
 
-no_backslash : (stop : Stop) (x : ℕ) → stops stop x ≡ true → x ≢ 92
+pub no_backslash : (stop : Stop) (x : ℕ) → stops stop x ≡ true → x ≢ 92
 no_backslash Comma x holds same = let bad : stops Comma 92 ≡ true = subst (λ y. stops Comma y ≡ true) same holds in cc
 no_backslash White x holds same = let bad : stops White 92 ≡ true = subst (λ y. stops White y ≡ true) same holds in cc
 no_backslash Colon x holds same = let bad : stops Colon 92 ≡ true = subst (λ y. stops Colon y ≡ true) same holds in cc
@@ -91,7 +91,7 @@ next_byte x y rest (inr p) (inr q) (inr t) u v false is some =
     inr (q.1, is, mapped (before_first (x ∷ [])) (tokens_of (y ∷ rest)) (rw (p.0, q.0, t.0, is) at some))
 
 -- nothing stands before a stop
-stops_at : (stop : Stop) (after : List ℕ) → BeginsWith stop after → untaken stop after ≡ 0
+pub stops_at : (stop : Stop) (after : List ℕ) → BeginsWith stop after → untaken stop after ≡ 0
 stops_at stop [] stands = nothing stop
 stops_at stop (x ∷ more) stands = stop_here stop x more (no_backslash stop x stands) stands
 

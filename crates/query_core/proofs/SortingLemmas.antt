@@ -26,22 +26,22 @@ breaks_refuses Language text place b whole = refused (cases_lt place (length tex
     refused (inl inside) = b.ends inside (drop (place + 1) text) (subst Language (sym (take-append-drop (place + 1) text)) whole)
     refused (inr over) = let within : place ≤ length text = b.within in b.short (omega arith) whole
 
-both : (a b : Bool) → (a && b) ≡ true → (a ≡ true) × (b ≡ true)
+pub both : (a b : Bool) → (a && b) ≡ true → (a ≡ true) × (b ≡ true)
 both true b holds = (refl, holds)
 both false b holds = cc
 
-either : (a b : Bool) → (a || b) ≡ true → (a ≡ true) ⊎ (b ≡ true)
+pub either : (a b : Bool) → (a || b) ≡ true → (a ≡ true) ⊎ (b ≡ true)
 either true b holds = inl refl
 either false b holds = inr holds
 
-small_by : (x c : ℕ) → c < 128 → (x == c) ≡ true → x < 128
+pub small_by : (x c : ℕ) → c < 128 → (x == c) ≡ true → x < 128
 small_by x c small same = let is : x ≡ c = eqb-true x c same in omega arith
 
-small_either : (x : ℕ) (a b : Bool) → (a ≡ true → x < 128) → (b ≡ true → x < 128) → (a || b) ≡ true → x < 128
+pub small_either : (x : ℕ) (a b : Bool) → (a ≡ true → x < 128) → (b ≡ true → x < 128) → (a || b) ≡ true → x < 128
 small_either x true b one two holds = one refl
 small_either x false b one two holds = two holds
 
-white_small : (x : ℕ) → is_white x ≡ true → x < 128
+pub white_small : (x : ℕ) → is_white x ≡ true → x < 128
 white_small x =
     small_either x _ _ (small_either x _ _ (small_either x _ _ (small_by x 32 (omega arith)) (small_by x 9 (omega arith))) (small_by x 13 (omega arith))) (small_by x 10 (omega arith))
 
@@ -60,7 +60,7 @@ split_white (x ∷ rest) = by_white x rest (is_white x) refl (split_white rest)
     by_white x rest true is more = (x ∷ more.0, rw is (ap (λ l. x ∷ l) more.1), rw is more.2)
     by_white x rest false is more = ([], rw is refl, refl)
 
-skip_white : (before rest : List ℕ) → all_white before ≡ true → past_white (before ++ rest) ≡ past_white rest
+pub skip_white : (before rest : List ℕ) → all_white before ≡ true → past_white (before ++ rest) ≡ past_white rest
 skip_white [] rest white = refl
 skip_white (x ∷ before) rest white = let parts = both (is_white x) (all_white before) white in rw parts.0 (skip_white before rest parts.1)
 

@@ -1,4 +1,11 @@
+pub mod Query
+pub mod Levels
 pub mod Parts
+pub mod Spelling
+pub mod Faults
+pub mod Stages
+pub mod Reading
 pub mod Sorting
 pub mod Order
 pub mod Page
+pub mod PageNumber

@@ -1,5 +1,8 @@
 //! Orders and pages, on a few objects.
+mod queries;
+
 use crate::hits::{Hits, page};
+use crate::numbers::page_number;
 use crate::order::Order;
 use crate::sorting::{OrderFault, order_of};
 use dobj_model::{Elements, Id, Metadata, Object, ObjectValue, TypeName};
@@ -130,8 +133,40 @@ fn sorted_hits_are_cut_into_pages(rt: HostRuntime) -> Result<(), Fail> {
         ("id DESC", 1, Some(4), "ba"),
         ("id", 1, Some(2), "cd"),
         ("id", 9, Some(1), ""),
+        ("id", 4_294_967_296, Some(4_294_967_296), ""),
         ("id", 0, Some(0), ""),
     ];
     assert!(rt; pages_are(rt.alloc(), &rows)?);
+    Ok(())
+}
+
+// The number that the JSON text gives for a page, 77 for none.
+fn number(alloc: Global, text: &str) -> Result<i128, Fail> {
+    match page_number(&read(alloc, text.as_bytes(), 64)?) {
+        Some(number) => Ok(number.get()),
+        None => Ok(77),
+    }
+}
+
+#[test]
+fn the_numbers_of_a_page_are_numbers_or_texts(rt: HostRuntime) -> Result<(), Fail> {
+    let rows = [
+        ("3", 3),
+        ("-1", -1),
+        ("\"9\"", 9),
+        ("\"-0\"", 0),
+        ("\"-007\"", -7),
+        ("\"999999999999999999\"", 999_999_999_999_999_999),
+        ("\"1000000000000000000\"", 77),
+        ("\"\"", 77),
+        ("\"-\"", 77),
+        ("\"1 \"", 77),
+        ("\"+1\"", 77),
+        ("true", 77),
+        ("null", 77),
+    ];
+    for row in &rows {
+        assert_eq!(rt; number(rt.alloc(), row.0)?, row.1);
+    }
     Ok(())
 }
