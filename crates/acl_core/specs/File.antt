@@ -1,8 +1,8 @@
 -- What an accounts file is: this project's own format, over JSON (RFC 8259) and SHA-256 in hexadecimal digits.
-use Rattle.std.specs.Prelude.{ℕ, List, [], ◌∷◌, length, codes, nat_eq, nat_le, Bool, true, false, not, ◌&&◌, if◌then◌else◌, map, Option, Some, None, option_map, option_and_then, Result, Ok, Err}
+use Rattle.std.specs.Prelude.{ℕ, List, [], ◌∷◌, length, codes, nat_eq, nat_le, Bool, true, not, ◌&&◌, if◌then◌else◌, Option, Some, None, option_map, option_and_then, Result, Ok, Err}
 use Rattle.std.specs.List.{list_any}
 use Rattle.std.specs.Cmp.Lexicographic.{pointwise}
-use Rattle.doip_json.specs.Value.{Value, null, truth, whole, text, list, table, Values, no_values, value, values_in}
+use Rattle.doip_json.specs.Value.{Value, null, text, list, Values, no_values, value, values_in}
 use Rattle.doip_json.specs.Look.{field_of}
 use Rattle.doip_json.specs.Read.{reading}
 use Rattle.doip_json.specs.declared.fault.TextFault.{TextFault}

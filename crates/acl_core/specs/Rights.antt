@@ -1,8 +1,8 @@
 -- What a caller may do (after Cordra): this project's own rule.
-use Rattle.std.specs.Prelude.{ℕ, List, [], ◌∷◌, codes, nat_eq, Bool, true, false, ◌||◌, if◌then◌else◌, Option, Some, None}
+use Rattle.std.specs.Prelude.{ℕ, List, [], codes, nat_eq, Bool, true, false, ◌||◌, if◌then◌else◌, Option, Some, None}
 use Rattle.std.specs.List.{list_any, cons_option}
 use Rattle.std.specs.Cmp.Lexicographic.{pointwise}
-use Rattle.doip_json.specs.Value.{Value, null, truth, whole, text, list, table, Values, no_values, value}
+use Rattle.doip_json.specs.Value.{Value, list, Values, no_values, value}
 use Rattle.dobj_model.specs.declared.object.ObjectValue.{ObjectValue}
 use Rattle.dobj_model.specs.Object.{access_list}
 use Rattle.acl_core.specs.declared.caller.Caller.{Caller}

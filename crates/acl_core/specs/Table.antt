@@ -1,5 +1,5 @@
 -- How the accounts are kept.
-use Rattle.std.specs.Prelude.{ℕ, List, map, String, string_bytes}
+use Rattle.std.specs.Prelude.{List, map, String, string_bytes}
 use Rattle.std.specs.HashMap.{HashMap}
 use Rattle.std.specs.declared.alloc.Global.{Global}
 use Rattle.acl_core.specs.declared.secret.Secret.{Secret}

@@ -5,7 +5,7 @@ ghost use Rattle.sha2.specs.Sha256.{sha256};
 ghost use Rattle.doip_json.specs.Meaning.{value_of};
 ghost use Rattle.acl_core.specs.declared.fault.AuthFault.TheVariants.{NotAuthentic};
 ghost use Rattle.acl_core.specs.Known.{account_of};
-ghost use Rattle.acl_core.specs.Caller.{caller_in, is_admin};
+ghost use Rattle.acl_core.specs.Caller.{caller_in, is_admin, IsShort};
 
 use crate::accounts::Accounts;
 use crate::fault::AuthFault;
@@ -46,6 +46,7 @@ pub fn caller_of(
 ) -> Result<Caller, AuthFault>
     ensures caller { IfOk result (λ caller.
         caller_in accounts.now (option_map (λ v. value_of v.now) authentication.entry) ≡ Some caller) }
+    ensures short { IfOk result IsShort }
     ensures refused { IfErr result (λ fault. fault ≡ NotAuthentic
         → caller_in accounts.now (option_map (λ v. value_of v.now) authentication.entry) ≡ None) }
 {
