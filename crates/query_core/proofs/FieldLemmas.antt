@@ -49,8 +49,10 @@ maps : (f : List (List ℕ) → List (List ℕ)) (o : Option (List (List ℕ))) 
 maps f None some = some
 maps f (Some x) some = refl
 
-digit_more : (x : ℕ) (rest : List ℕ) → x ≢ 47 → x ≢ 92 → x ≢ 126 → stands_apart x ≡ false → IsSome (tokens_of rest) → IsSome (tokens_of (x ∷ rest))
-digit_more x rest a b c plain some = rw (plain_reads x rest a b c plain) (maps (before_first (x ∷ [])) (tokens_of rest) some)
+digit_more : (x : ℕ) (rest : List ℕ) → x ≢ 47 → x ≢ 92 → x ≢ 126 → stands_apart x ≡ false → IsSome (tokens_of rest)
+    → IsSome (tokens_of (x ∷ rest))
+digit_more x rest a b c plain some =
+    rw (plain_reads x rest a b c plain) (maps (before_first (x ∷ [])) (tokens_of rest) some)
 
 -- a pointer's last byte
 last_byte : (x : ℕ) → ((x == 47) ≡ true) × (x ≡ 47) ⊎ ((x == 47) ≡ false) × (x ≢ 47)
@@ -61,7 +63,8 @@ unfolding tokens_of
 last_byte x (inl slash) other t b is some = (λ e. omega arith, rw slash.1 refl)
 last_byte x (inr byte) (inl back) t b is some = let bad : false ≡ true = rw (byte.0, back.0) at some in cc
 last_byte x (inr byte) (inr plain) (inl t) b is some = let bad : false ≡ true = rw (byte.0, plain.0, t.0) at some in cc
-last_byte x (inr byte) (inr plain) (inr t) true is some = let bad : false ≡ true = rw (byte.0, plain.0, t.0, is) at some in cc
+last_byte x (inr byte) (inr plain) (inr t) true is some = let bad : false ≡ true =
+    rw (byte.0, plain.0, t.0, is) at some in cc
 last_byte x (inr byte) (inr plain) (inr t) false is some = (plain.1, is)
 
 -- a pointer's byte before others
@@ -78,11 +81,23 @@ next_byte x y rest (inl slash) q t u v b is some =
 next_byte x y rest (inr p) (inl back) t u v b is some =
     inl (back.1, mapped (before_first (y ∷ [])) (tokens_of rest) (rw (p.0, back.0) at some))
 next_byte x y rest (inr p) (inr q) (inl tilde) (inl zero_digit) v b is some =
-    let more : IsSome (tokens_of rest) = mapped (before_first (126 ∷ [])) (tokens_of rest) (rw (p.0, q.0, tilde.0, zero_digit.0) at some) in
-    inr (q.1, rw tilde.1 refl, subst (λ z. IsSome (tokens_of (z ∷ rest))) (sym zero_digit.1) (digit_more 48 rest (λ e. omega arith) (λ e. omega arith) (λ e. omega arith) refl more))
+    let more : IsSome (tokens_of rest) =
+    mapped (before_first (126 ∷ [])) (tokens_of rest) (rw (p.0, q.0, tilde.0, zero_digit.0) at some) in
+    inr (
+      q.1,
+      rw tilde.1 refl,
+      subst (λ z. IsSome (tokens_of (z ∷ rest))) (sym zero_digit.1)
+          (digit_more 48 rest (λ e. omega arith) (λ e. omega arith) (λ e. omega arith) refl more),
+    )
 next_byte x y rest (inr p) (inr q) (inl tilde) (inr u) (inl one_digit) b is some =
-    let more : IsSome (tokens_of rest) = mapped (before_first (47 ∷ [])) (tokens_of rest) (rw (p.0, q.0, tilde.0, u.0, one_digit.0) at some) in
-    inr (q.1, rw tilde.1 refl, subst (λ z. IsSome (tokens_of (z ∷ rest))) (sym one_digit.1) (digit_more 49 rest (λ e. omega arith) (λ e. omega arith) (λ e. omega arith) refl more))
+    let more : IsSome (tokens_of rest) =
+    mapped (before_first (47 ∷ [])) (tokens_of rest) (rw (p.0, q.0, tilde.0, u.0, one_digit.0) at some) in
+    inr (
+      q.1,
+      rw tilde.1 refl,
+      subst (λ z. IsSome (tokens_of (z ∷ rest))) (sym one_digit.1)
+          (digit_more 49 rest (λ e. omega arith) (λ e. omega arith) (λ e. omega arith) refl more),
+    )
 next_byte x y rest (inr p) (inr q) (inl tilde) (inr u) (inr v) b is some =
     let bad : false ≡ true = rw (p.0, q.0, tilde.0, u.0, v.0) at some in cc
 next_byte x y rest (inr p) (inr q) (inr t) u v true is some =
@@ -115,15 +130,18 @@ tokens_end stop ends (x ∷ []) after stands some =
     step_one stop x after byte.0 (not_stop stop ends x byte.1) ∙ ap (λ n. 1 + n) (stops_at stop after stands)
 tokens_end stop ends (x ∷ y ∷ rest) after stands some =
     by_byte stop ends x y rest after
-    (next_byte x y rest (eqb_tells x 47) (eqb_tells x 92) (eqb_tells x 126) (eqb_tells y 48) (eqb_tells y 49) (stands_apart x) refl some)
+    (next_byte x y rest (eqb_tells x 47) (eqb_tells x 92) (eqb_tells x 126) (eqb_tells y 48) (eqb_tells y 49)
+    (stands_apart x) refl some)
     (tokens_end stop ends rest after stands) (tokens_end stop ends (y ∷ rest) after stands)
 
 plain_end : (stop : Stop) → EndsFields stop → (x : ℕ) (rest after : List ℕ) → stands_apart x ≡ false → x ≢ 92
     → untaken stop (rest ++ after) ≡ length rest → untaken stop (x ∷ (rest ++ after)) ≡ suc (length rest)
-plain_end stop ends x rest after plain byte more = step_one stop x (rest ++ after) byte (not_stop stop ends x plain) ∙ omega (arith, more)
+plain_end stop ends x rest after plain byte more = step_one stop x (rest ++ after) byte (not_stop stop ends x plain)
+    ∙ omega (arith, more)
 
 -- a field's text up to the stop after it
-pub field_end : (stop : Stop) → EndsFields stop → (text after : List ℕ) (field : Field) → BeginsWith stop after → IsField text field
+pub field_end : (stop : Stop) → EndsFields stop → (text after : List ℕ) (field : Field) → BeginsWith stop after
+    → IsField text field
     → untaken stop (text ++ after) ≡ length text
 field_end stop ends text after Id stands is =
     rw is (plain_end stop ends 105 (100 ∷ []) after refl (λ e. omega arith)
@@ -134,4 +152,5 @@ field_end stop ends text after OfType stands is =
     (plain_end stop ends 112 (101 ∷ []) after refl (λ e. omega arith)
     (plain_end stop ends 101 [] after refl (λ e. omega arith) (stops_at stop after stands)))))
 field_end stop ends text after (Pointer tokens) stands is =
-    rw is.1 (plain_end stop ends 47 is.0 after refl (λ e. omega arith) (tokens_end stop ends is.0 after stands (rw is.2 refl)))
+    rw is.1 (plain_end stop ends 47 is.0 after refl (λ e. omega arith)
+    (tokens_end stop ends is.0 after stands (rw is.2 refl)))

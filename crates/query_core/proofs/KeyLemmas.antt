@@ -19,13 +19,17 @@ tails x y a b same = cc
 -- a text names at most one field
 pub one_field : (text : List ℕ) (one other : Field) → IsField text one → IsField text other → one ≡ other
 one_field text Id Id a b = refl
-one_field text Id OfType a b = let bad = heads 105 116 (100 ∷ []) (121 ∷ 112 ∷ 101 ∷ []) (sym a ∙ b) in absurd (omega arith)
+one_field text Id OfType a b = let bad = heads 105 116 (100 ∷ []) (121 ∷ 112 ∷ 101 ∷ []) (sym a ∙ b) in
+    absurd (omega arith)
 one_field text Id (Pointer tokens) a b = let bad = heads 105 47 (100 ∷ []) b.0 (sym a ∙ b.1) in absurd (omega arith)
-one_field text OfType Id a b = let bad = heads 116 105 (121 ∷ 112 ∷ 101 ∷ []) (100 ∷ []) (sym a ∙ b) in absurd (omega arith)
+one_field text OfType Id a b = let bad = heads 116 105 (121 ∷ 112 ∷ 101 ∷ []) (100 ∷ []) (sym a ∙ b) in
+    absurd (omega arith)
 one_field text OfType OfType a b = refl
-one_field text OfType (Pointer tokens) a b = let bad = heads 116 47 (121 ∷ 112 ∷ 101 ∷ []) b.0 (sym a ∙ b.1) in absurd (omega arith)
+one_field text OfType (Pointer tokens) a b = let bad = heads 116 47 (121 ∷ 112 ∷ 101 ∷ []) b.0 (sym a ∙ b.1) in
+    absurd (omega arith)
 one_field text (Pointer tokens) Id a b = let bad = heads 47 105 a.0 (100 ∷ []) (sym a.1 ∙ b) in absurd (omega arith)
-one_field text (Pointer tokens) OfType a b = let bad = heads 47 116 a.0 (121 ∷ 112 ∷ 101 ∷ []) (sym a.1 ∙ b) in absurd (omega arith)
+one_field text (Pointer tokens) OfType a b = let bad = heads 47 116 a.0 (121 ∷ 112 ∷ 101 ∷ []) (sym a.1 ∙ b) in
+    absurd (omega arith)
 one_field text (Pointer tokens) (Pointer others) a b =
     let rests : a.0 ≡ b.0 = tails 47 47 a.0 b.0 (sym a.1 ∙ b.1) in
     let same : Some tokens ≡ Some others = sym a.2 ∙ (ap tokens_of rests ∙ b.2) in
@@ -34,7 +38,9 @@ one_field text (Pointer tokens) (Pointer others) a b =
 some_flag : (a b : Bool) → Some a ≡ Some b → a ≡ b
 some_flag a b same = cc
 
-same_key : (f g : Field) (a b : Bool) → f ≡ g → a ≡ b → (let one : SortKey = record { field = f; descending = a } in let other : SortKey = record { field = g; descending = b } in one ≡ other)
+same_key : (f g : Field) (a b : Bool) → f ≡ g → a ≡ b
+    → (let one : SortKey = record { field = f; descending = a } in let other : SortKey =
+    record { field = g; descending = b } in one ≡ other)
 same_key f g a b fields flags = cc
 
 one_part : (part : List ℕ) (one other : SortKey) → IsSortPart part one → IsSortPart part other → one ≡ other
@@ -42,34 +48,49 @@ one_part part one other a b =
     let n = untaken White (past_white part) in
     let first = part_known part one a in
     let second = part_known part other b in
-    same_key one.field other.field one.descending other.descending (one_field (take n (past_white part)) one.field other.field first.0 second.0)
+    same_key one.field other.field one.descending other.descending
+    (one_field (take n (past_white part)) one.field other.field first.0 second.0)
     (some_flag one.descending other.descending (sym first.1 ∙ second.1))
 
-too_short : (text part rest : List ℕ) → text ≡ part ++ 44 ∷ rest → untaken Comma text ≡ length text → untaken Comma text ≡ length part → ⊥
-too_short text part rest are one other = omega (arith, one, other, ap (length {A = ℕ}) are, length-append part (44 ∷ rest))
+too_short : (text part rest : List ℕ) → text ≡ part ++ 44 ∷ rest → untaken Comma text ≡ length text
+    → untaken Comma text ≡ length part → ⊥
+too_short text part rest are one other =
+    omega (arith, one, other, ap (length {A = ℕ}) are, length-append part (44 ∷ rest))
 
-same_parts : (text part rest other after : List ℕ) → text ≡ part ++ 44 ∷ rest → text ≡ other ++ 44 ∷ after → untaken Comma text ≡ length part → untaken Comma text ≡ length other
+same_parts : (text part rest other after : List ℕ) → text ≡ part ++ 44 ∷ rest → text ≡ other ++ 44 ∷ after
+    → untaken Comma text ≡ length part → untaken Comma text ≡ length other
     → (part ≡ other) × (rest ≡ after)
 same_parts text part rest other after one two far also =
     let long : length part ≡ length other = sym far ∙ also in
     let whole : part ++ 44 ∷ rest ≡ other ++ 44 ∷ after = sym one ∙ two in
-    let parts : part ≡ other = sym (take-append_seam part (44 ∷ rest)) ∙ (ap (take (length part)) whole ∙ (ap (λ n. take n (other ++ 44 ∷ after)) long ∙ take-append_seam other (44 ∷ after))) in
-    let rests : 44 ∷ rest ≡ 44 ∷ after = sym (drop-append_seam part (44 ∷ rest)) ∙ (ap (drop (length part)) whole ∙ (ap (λ n. drop n (other ++ 44 ∷ after)) long ∙ drop-append_seam other (44 ∷ after))) in
+    let parts : part ≡ other = sym (take-append_seam part (44 ∷ rest))
+    ∙ (ap (take (length part)) whole
+    ∙ (ap (λ n. take n (other ++ 44 ∷ after)) long ∙ take-append_seam other (44 ∷ after))) in
+    let rests : 44 ∷ rest ≡ 44 ∷ after = sym (drop-append_seam part (44 ∷ rest))
+    ∙ (ap (drop (length part)) whole
+    ∙ (ap (λ n. drop n (other ++ 44 ∷ after)) long ∙ drop-append_seam other (44 ∷ after))) in
     (parts, tails 44 44 rest after rests)
 
-one_list_of : (keys others : List SortKey) (text : List ℕ) → AreSortParts text keys → AreSortParts text others → keys ≡ others
+one_list_of : (keys others : List SortKey) (text : List ℕ) → AreSortParts text keys → AreSortParts text others
+    → keys ≡ others
 one_list_of [] others text a b = absurd a
 one_list_of (key ∷ []) [] text a b = absurd b
 one_list_of (key ∷ []) (other ∷ []) text a b = ap (λ k. k ∷ []) (one_part text key other a.1 b.1)
-one_list_of (key ∷ []) (other ∷ next ∷ others) text a (part, rest, are, far, first, more) = absurd (too_short text part rest are a.0 far)
+one_list_of (key ∷ []) (other ∷ next ∷ others) text a (part, rest, are, far, first, more) =
+    absurd (too_short text part rest are a.0 far)
 one_list_of (key ∷ next ∷ keys) [] text a b = absurd b
-one_list_of (key ∷ next ∷ keys) (other ∷ []) text (part, rest, are, far, first, more) b = absurd (too_short text part rest are b.0 far)
-one_list_of (key ∷ next ∷ keys) (other ∷ then ∷ others) text (part, rest, are, far, first, more) (part2, rest2, are2, far2, first2, more2) =
+one_list_of (key ∷ next ∷ keys) (other ∷ []) text (part, rest, are, far, first, more) b =
+    absurd (too_short text part rest are b.0 far)
+one_list_of (key ∷ next ∷ keys) (other ∷ then ∷ others) text (part, rest, are, far, first, more)
+    (part2, rest2, are2, far2, first2, more2) =
     let same = same_parts text part rest part2 rest2 are are2 far far2 in
     let heads_are : key ≡ other = one_part part key other first (subst (λ p. IsSortPart p other) (sym same.0) first2) in
-    let tails_are : next ∷ keys ≡ then ∷ others = one_list_of (next ∷ keys) (then ∷ others) rest more (subst (λ r. AreSortParts r (then ∷ others)) (sym same.1) more2) in
+    let tails_are : next ∷ keys ≡ then ∷ others =
+    one_list_of (next ∷ keys) (then ∷ others) rest more
+    (subst (λ r. AreSortParts r (then ∷ others)) (sym same.1) more2) in
     ap (λ k. k ∷ next ∷ keys) heads_are ∙ ap (λ l. other ∷ l) tails_are
 
-pub one_list : (text : List ℕ) (keys others : List SortKey) → NamesKeys text keys → NamesKeys text others → keys ≡ others
+pub one_list : (text : List ℕ) (keys others : List SortKey) → NamesKeys text keys → NamesKeys text others
+    → keys ≡ others
 one_list [] keys others a b = a ∙ sym b
 one_list (x ∷ text) keys others a b = one_list_of keys others (x ∷ text) a b

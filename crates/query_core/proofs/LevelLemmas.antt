@@ -25,9 +25,11 @@ turned_twice false v = refl
 
 opens : (object : ObjectValue) (level : Level) (outer : List Level) (rest : List Token) → length outer < 64
     → outcome object level outer (Open ∷ rest) ≡ outcome object fresh (level ∷ outer) rest
-opens object level outer rest room = ap (λ b. if b then outcome object fresh (level ∷ outer) rest else None) (lt-ltb (length outer) 64 room)
+opens object level outer rest room =
+    ap (λ b. if b then outcome object fresh (level ∷ outer) rest else None) (lt-ltb (length outer) 64 room)
 
-looks_close : (object : ObjectValue) (around : Level) (outer : List Level) (more : List Token) → Looks object (around ∷ outer) (Close ∷ more)
+looks_close : (object : ObjectValue) (around : Level) (outer : List Level) (more : List Token)
+    → Looks object (around ∷ outer) (Close ∷ more)
 unfolding Looks
 looks_close object around outer more a b same = ap (λ v. outcome object (joined around v) outer more) same
 
@@ -41,33 +43,42 @@ unfolding Looks
 looked object outer more looks a b same = looks a b same
 
 mutual
-  whole_outcome : (q : Disjunction) (object : ObjectValue) (found : Bool) (outer : List Level) (more : List Token) → Looks object outer more
+  whole_outcome : (q : Disjunction) (object : ObjectValue) (found : Bool) (outer : List Level) (more : List Token)
+      → Looks object outer more
       → length outer + depth_of q ≤ 64
-      → outcome object (ready found true) outer (tokens_of q ++ more) ≡ outcome object (ready found (holds q object)) outer more
+      → outcome object (ready found true) outer (tokens_of q ++ more) ≡ outcome object
+      (ready found (holds q object)) outer more
   whole_outcome (alone c) object found outer more looks deep = conjunction_outcome c object found true outer more deep
   whole_outcome (either c q) object found outer more looks deep =
       let v = conjunction_holds c object in
       ap (outcome object (ready found true) outer) (append_assoc (conjunction_tokens c) (Or ∷ tokens_of q) more)
       ∙ (conjunction_outcome c object found true outer (Or ∷ (tokens_of q ++ more)) (omega arith)
       ∙ (whole_outcome q object (found || v) outer more looks (omega arith)
-      ∙ looked object outer more looks (ready (found || v) (holds q object)) (ready found (v || holds q object)) (or_assoc found v (holds q object))))
+      ∙ looked object outer more looks (ready (found || v) (holds q object)) (ready found (v || holds q object))
+      (or_assoc found v (holds q object))))
 
-  conjunction_outcome : (c : Conjunction) (object : ObjectValue) (found all : Bool) (outer : List Level) (more : List Token)
+  conjunction_outcome : (c : Conjunction) (object : ObjectValue) (found all : Bool) (outer : List Level)
+      (more : List Token)
       → length outer + conjunction_depth c ≤ 64
-      → outcome object (ready found all) outer (conjunction_tokens c ++ more) ≡ outcome object (ready found (all && conjunction_holds c object)) outer more
-  conjunction_outcome (single t) object found all outer more deep = term_outcome t object (ready found all) outer more deep
+      → outcome object (ready found all) outer (conjunction_tokens c ++ more) ≡ outcome object
+      (ready found (all && conjunction_holds c object)) outer more
+  conjunction_outcome (single t) object found all outer more deep =
+      term_outcome t object (ready found all) outer more deep
   conjunction_outcome (both t c) object found all outer more deep =
       ap (outcome object (ready found all) outer) (append_assoc (term_tokens t) (And ∷ conjunction_tokens c) more)
       ∙ (term_outcome t object (ready found all) outer (And ∷ (conjunction_tokens c ++ more)) (omega arith)
       ∙ (conjunction_outcome c object found (all && term_holds t object) outer more (omega arith)
-      ∙ ap (λ v. outcome object (ready found v) outer more) (and_assoc all (term_holds t object) (conjunction_holds c object))))
+      ∙ ap (λ v. outcome object (ready found v) outer more)
+      (and_assoc all (term_holds t object) (conjunction_holds c object))))
 
   term_outcome : (t : Term) (object : ObjectValue) (level : Level) (outer : List Level) (more : List Token)
       → length outer + term_depth t ≤ 64
-      → outcome object level outer (term_tokens t ++ more) ≡ outcome object (joined level (term_holds t object)) outer more
+      → outcome object level outer (term_tokens t ++ more) ≡ outcome object
+      (joined level (term_holds t object)) outer more
   term_outcome (negated t) object level outer more deep =
       term_outcome t object (turned level) outer more (omega arith)
-      ∙ ap (λ v. outcome object (ready level.found (level.all && v)) outer more) (turned_twice level.negated (term_holds t object))
+      ∙ ap (λ v. outcome object (ready level.found (level.all && v)) outer more)
+      (turned_twice level.negated (term_holds t object))
   term_outcome (group q) object level outer more deep =
       ap (λ rest. outcome object level outer (Open ∷ rest)) (append_assoc (tokens_of q) (Close ∷ []) more)
       ∙ (opens object level outer (tokens_of q ++ Close ∷ more) (omega arith)
@@ -75,6 +86,8 @@ mutual
   term_outcome every object level outer more deep = refl
   term_outcome (test field on) object level outer more deep = refl
 
-pub query_outcome : (tokens : List Token) (q : Disjunction) (object : ObjectValue) → IsQuery tokens q → outcome object fresh [] tokens ≡ Some (holds q object)
+pub query_outcome : (tokens : List Token) (q : Disjunction) (object : ObjectValue) → IsQuery tokens q
+    → outcome object fresh [] tokens ≡ Some (holds q object)
 query_outcome tokens q object is =
-    ap (outcome object fresh []) (is.0 ∙ sym (append-nil (tokens_of q))) ∙ whole_outcome q object false [] [] (looks_end object) (omega (arith, is.1))
+    ap (outcome object fresh []) (is.0 ∙ sym (append-nil (tokens_of q)))
+    ∙ whole_outcome q object false [] [] (looks_end object) (omega (arith, is.1))

@@ -9,7 +9,8 @@ use Rattle.query_core.specs.declared.order.SortKey.{SortKey}
 use Rattle.query_core.specs.Order.{kind_of, number_in, string_in, lack_of, key_of, rising, falling, by_key, by_keys}
 
 rising_total : IsTotalOrder rising
-rising_total = then_total (on_total kind_of nat_cmp_total) (then_total (on_total number_in int_cmp_total) (on_total string_in nat_list_cmp_total))
+rising_total = then_total (on_total kind_of nat_cmp_total)
+    (then_total (on_total number_in int_cmp_total) (on_total string_in nat_list_cmp_total))
 
 falling_total : IsTotalOrder falling
 falling_total = then_total (on_total lack_of nat_cmp_total) (back_total rising_total)
@@ -23,7 +24,8 @@ by_keys_total [] = on_total (λ (object : ObjectValue). object.id) nat_list_cmp_
 by_keys_total (key ∷ keys) = then_total (on_total (key_of key.field) (either_total key.descending)) (by_keys_total keys)
 
 -- the keys from a place on
-pub next_key : (keys : List SortKey) (i : ℕ) (key : SortKey) (a b : ObjectValue) → i < length keys → key ≡ get_or keys i key
+pub next_key : (keys : List SortKey) (i : ℕ) (key : SortKey) (a b : ObjectValue) → i < length keys
+    → key ≡ get_or keys i key
     → by_keys (drop i keys) a b ≡ ordering_then (by_key key a b) (by_keys (drop (i + 1) keys) a b)
 next_key keys i key a b within is =
     ap (λ ks. by_keys ks a b) (drop_more keys i key within ∙ ap (λ k. k ∷ drop (i + 1) keys) (sym is))

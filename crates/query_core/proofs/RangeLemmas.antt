@@ -15,7 +15,13 @@ use Rattle.query_core.proofs.SortingLemmas.{both}
 digit_dark : (x : ℕ) → is_digit x ≡ true → is_white x ≡ false
 digit_dark x digit =
     let least : 48 ≤ x = leb-true 48 x (both (leb 48 x) (leb x 57) digit).0 in
-    rw (ne_eqb x 32 (λ e. omega arith), ne_eqb x 9 (λ e. omega arith), ne_eqb x 13 (λ e. omega arith), ne_eqb x 10 (λ e. omega arith)) refl
+    rw (
+      ne_eqb x 32 (λ e. omega arith),
+      ne_eqb x 9 (λ e. omega arith),
+      ne_eqb x 13 (λ e. omega arith),
+      ne_eqb x 10
+          (λ e. omega arith),
+    ) refl
 
 white_blunt : (x : ℕ) → is_white x ≡ true → not (is_digit x) ≡ true
 white_blunt x white = by_digit (is_digit x) refl
@@ -56,7 +62,8 @@ white_word_blunt [] rest is = refl
 white_word_blunt (x ∷ white) rest is = white_blunt x (both (is_white x) (all_white white) is).0
 
 -- white bytes and a `]` may follow a bound
-pub close_after : (K : Bool → List ℕ → Type 0) → Live K → ((more : List ℕ) × K false more) → AfterBound (White (Word (93 ∷ []) K))
+pub close_after : (K : Bool → List ℕ → Type 0) → Live K → ((more : List ℕ) × K false more)
+    → AfterBound (White (Word (93 ∷ []) K))
 close_after K live lax = record {
   live = white_live (Word (93 ∷ []) K) (word_live (93 ∷ []) K live);
   lax = (93 ∷ lax.0, ([], 93 ∷ lax.0, refl, refl, (lax.0, refl, lax.1)));

@@ -28,7 +28,8 @@ abbrev pub touches : Option Token → List ℕ → Bool
 touches None rest = true
 touches (Some token) rest = follows token rest
 
-touch_as : (glue : Option Token) (more rest : List ℕ) → first more ≡ first rest → touches glue rest ≡ true → touches glue more ≡ true
+touch_as : (glue : Option Token) (more rest : List ℕ) → first more ≡ first rest → touches glue rest ≡ true
+    → touches glue more ≡ true
 touch_as None more rest same said = refl
 touch_as (Some token) more rest same said = follows_as token more rest same ∙ said
 
@@ -42,7 +43,8 @@ field_dark name rest Id is = ap (λ n. is_sharp (n ++ rest)) is
 field_dark name rest OfType is = ap (λ n. is_sharp (n ++ rest)) is
 field_dark name rest (Pointer tokens) is = ap (λ n. is_sharp (n ++ rest)) is.1
 
-token_dark : (strict : Bool) (spelling rest : List ℕ) (token : Token) → IsToken strict spelling token → is_sharp (spelling ++ rest) ≡ true
+token_dark : (strict : Bool) (spelling rest : List ℕ) (token : Token) → IsToken strict spelling token
+    → is_sharp (spelling ++ rest) ≡ true
 token_dark strict spelling rest Open is = ap (λ s. is_sharp (s ++ rest)) is
 token_dark strict spelling rest Close is = ap (λ s. is_sharp (s ++ rest)) is
 token_dark strict spelling rest Not is = ap (λ s. is_sharp (s ++ rest)) is
@@ -50,7 +52,9 @@ token_dark strict spelling rest And is = ap (λ s. is_sharp (s ++ rest)) is
 token_dark strict spelling rest Or is = ap (λ s. is_sharp (s ++ rest)) is
 token_dark strict spelling rest Every is = ap (λ s. is_sharp (s ++ rest)) is
 token_dark strict spelling rest (Test field on) is =
-    ap (λ s. is_sharp (s ++ rest)) is.3 ∙ (ap is_sharp (append_assoc is.0 (58 ∷ (is.1 ++ is.2)) rest) ∙ field_dark is.0 (58 ∷ (is.1 ++ is.2) ++ rest) field is.4)
+    ap (λ s. is_sharp (s ++ rest)) is.3
+    ∙ (ap is_sharp (append_assoc is.0 (58 ∷ (is.1 ++ is.2)) rest)
+    ∙ field_dark is.0 (58 ∷ (is.1 ++ is.2) ++ rest) field is.4)
 
 -- no token has no bytes
 no_token : (strict : Bool) (token : Token) → IsToken strict [] token → ⊥
@@ -69,18 +73,30 @@ no_token strict (Test field on) is = no_colon is.0 (is.1 ++ is.2) is.3
 white_both : (a b : List ℕ) → all_white a ≡ true → all_white b ≡ true → all_white (a ++ b) ≡ true
 white_both [] b one two = two
 white_both (x ∷ a) b one two =
-    let parts = both (is_white x) (all_white a) one in ap (λ w. w && all_white (a ++ b)) parts.0 ∙ white_both a b parts.1 two
+    let parts = both (is_white x) (all_white a) one in ap (λ w. w && all_white (a ++ b)) parts.0
+    ∙ white_both a b parts.1 two
 
 white_rest : (a b : List ℕ) → all_white (a ++ b) ≡ true → all_white b ≡ true
 white_rest [] b said = said
 white_rest (x ∷ a) b said = white_rest a b (both (is_white x) (all_white (a ++ b)) said).1
 
-spelt_more : (strict : Bool) (white more : List ℕ) (tokens : List Token) → all_white white ≡ true → Spelt strict more tokens → Spelt strict (white ++ more) tokens
+spelt_more : (strict : Bool) (white more : List ℕ) (tokens : List Token) → all_white white ≡ true
+    → Spelt strict more tokens → Spelt strict (white ++ more) tokens
 spelt_more strict white more [] is said = white_both white more is said
-spelt_more strict white more (token ∷ tokens) is (other, spelling, rest, are, also, token_is, follows_it, spelt) =
-    (white ++ other, spelling, rest, ap (λ m. white ++ m) are ∙ sym (append_assoc white other (spelling ++ rest)), white_both white other is also, token_is, follows_it, spelt)
+spelt_more strict white more (token ∷ tokens) is (other, spelling, rest, are, also, token_is, follows_it, spelt) = (
+  white ++ other,
+  spelling,
+  rest,
+  ap (λ m. white ++ m) are
+      ∙ sym (append_assoc white other (spelling ++ rest)),
+  white_both white other is also,
+  token_is,
+  follows_it,
+  spelt,
+)
 
-dark_white : (more rest spelling : List ℕ) → 0 < length more → all_white more ≡ true → spelling ≡ more ++ rest → is_sharp spelling ≡ true → ⊥
+dark_white : (more rest spelling : List ℕ) → 0 < length more → all_white more ≡ true → spelling ≡ more ++ rest
+    → is_sharp spelling ≡ true → ⊥
 dark_white [] rest spelling some white same dark = omega arith
 dark_white (x ∷ more) rest spelling some white same dark =
     let bright : is_white x ≡ true = (both (is_white x) (all_white more) white).0 in
@@ -89,27 +105,42 @@ dark_white (x ∷ more) rest spelling some white same dark =
 white_part : (a b : List ℕ) → all_white (a ++ b) ≡ true → all_white b ≡ true
 white_part a b said = white_rest a b said
 
-spelt_less : (strict : Bool) (white more : List ℕ) (tokens : List Token) → all_white white ≡ true → Spelt strict (white ++ more) tokens → Spelt strict more tokens
+spelt_less : (strict : Bool) (white more : List ℕ) (tokens : List Token) → all_white white ≡ true
+    → Spelt strict (white ++ more) tokens → Spelt strict more tokens
 spelt_less strict white more [] is said = white_rest white more said
-spelt_less strict white more (token ∷ tokens) is (other, spelling, rest, are, also, token_is, follows_it, spelt) = by_length (cases_lt (length other) (length white))
+spelt_less strict white more (token ∷ tokens) is (other, spelling, rest, are, also, token_is, follows_it, spelt) =
+    by_length (cases_lt (length other) (length white))
   where
     by_length : (length other < length white) ⊎ (length white ≤ length other) → Spelt strict more (token ∷ tokens)
     by_length (inl short) =
         let parts = longer other (spelling ++ rest) white more (sym are) (omega arith) in
         let some : 0 < length parts.0 = omega (arith, ap (length {A = ℕ}) parts.1, length-append other parts.0) in
-        absurd (dark_white parts.0 more (spelling ++ rest) some (white_rest other parts.0 (ap all_white (sym parts.1) ∙ is)) parts.2 (token_dark strict spelling rest token token_is))
+        absurd (dark_white parts.0 more (spelling ++ rest) some
+        (white_rest other parts.0 (ap all_white (sym parts.1) ∙ is)) parts.2
+        (token_dark strict spelling rest token token_is))
     by_length (inr long) =
-        let parts = longer white more other (spelling ++ rest) are long in
-        (parts.0, spelling, rest, parts.2, white_rest white parts.0 (ap all_white (sym parts.1) ∙ also), token_is, follows_it, spelt)
+        let parts = longer white more other (spelling ++ rest) are long in (
+          parts.0,
+          spelling,
+          rest,
+          parts.2,
+          white_rest white parts.0
+              (ap all_white (sym parts.1) ∙ also),
+          token_is,
+          follows_it,
+          spelt,
+        )
 
 -- white bytes after the last token
 record WhiteStep (glue : Option Token) (nesting : Nesting) (white rest : List ℕ) : Type 0 where
   next : Option Token
   touch : touches next rest ≡ true
   leads : Leads (Glued (touches glue) (Rest nesting)) (Glued (touches next) (Rest nesting)) white rest
-  spelt : (more : List ℕ) (others : List Token) → touches next more ≡ true → Spelt true more others → (touches glue (white ++ more) ≡ true) × Spelt true (white ++ more) others
+  spelt : (more : List ℕ) (others : List Token) → touches next more ≡ true → Spelt true more others
+      → (touches glue (white ++ more) ≡ true) × Spelt true (white ++ more) others
 
-white_step : (glue : Option Token) (nesting : Nesting) (white rest : List ℕ) → all_white white ≡ true → touches glue (white ++ rest) ≡ true → WhiteStep glue nesting white rest
+white_step : (glue : Option Token) (nesting : Nesting) (white rest : List ℕ) → all_white white ≡ true
+    → touches glue (white ++ rest) ≡ true → WhiteStep glue nesting white rest
 white_step glue nesting [] rest is touch = record {
   next = glue;
   touch = touch;
@@ -124,9 +155,14 @@ white_step glue nesting (x ∷ white) rest is touch = record {
       touch_as glue (x ∷ (white ++ more)) (x ∷ (white ++ rest)) refl touch,
       (said.1.0, spelt_more strict (x ∷ white) more said.1.0 is said.1.1, said.1.2),
     );
-    back = λ strict more same said. (refl, (said.1.0, spelt_less strict (x ∷ white) more said.1.0 is said.1.1, said.1.2));
+    back = λ strict more same said.
+        (refl, (said.1.0, spelt_less strict (x ∷ white) more said.1.0 is said.1.1, said.1.2));
   };
-  spelt = λ more others touch_more said. (touch_as glue (x ∷ (white ++ more)) (x ∷ (white ++ rest)) refl touch, spelt_more true (x ∷ white) more others is said);
+  spelt = λ more others touch_more said. (
+    touch_as glue (x ∷ (white ++ more)) (x ∷ (white ++ rest)) refl touch,
+    spelt_more true
+        (x ∷ white) more others is said,
+  );
 }
 
 -- a text is read up to this place
@@ -138,27 +174,32 @@ pub record ReadTo (text : List ℕ) (at : ℕ) (nesting : Nesting) (tokens : Lis
   pub glue : Option Token
   pub touch : touches glue (drop at text) ≡ true
   pub leads : Leads (Rest start) (Glued (touches glue) (Rest nesting)) (take at text) (drop at text)
-  pub spelt : (more : List ℕ) (others : List Token) → touches glue more ≡ true → Spelt true more others → Spelt true (take at text ++ more) (tokens ++ others)
+  pub spelt : (more : List ℕ) (others : List Token) → touches glue more ≡ true → Spelt true more others
+      → Spelt true (take at text ++ more) (tokens ++ others)
   pub goes : (others : List Token) → runs (Some start) (tokens ++ others) ≡ runs (Some nesting) others
 
 -- a text whose tokens are read, before the white bytes after them
-record TokensRead (text : List ℕ) (at : ℕ) (glue : Option Token) (nesting : Nesting) (tokens : List Token) : Type 0 where
+record TokensRead (text : List ℕ) (at : ℕ) (glue : Option Token) (nesting : Nesting)
+    (tokens : List Token) : Type 0 where
   fits : at ≤ length text
   utf8 : IsUtf8 (drop at text)
   settled : IsSettled nesting
   touch : touches glue (drop at text) ≡ true
   leads : Leads (Rest start) (Glued (touches glue) (Rest nesting)) (take at text) (drop at text)
-  spelt : (more : List ℕ) (others : List Token) → touches glue more ≡ true → Spelt true more others → Spelt true (take at text ++ more) (tokens ++ others)
+  spelt : (more : List ℕ) (others : List Token) → touches glue more ≡ true → Spelt true more others
+      → Spelt true (take at text ++ more) (tokens ++ others)
   goes : (others : List Token) → runs (Some start) (tokens ++ others) ≡ runs (Some nesting) others
 
-past_white_bytes : (text : List ℕ) (at end : ℕ) (glue : Option Token) (nesting : Nesting) (tokens : List Token) → TokensRead text at glue nesting tokens
+past_white_bytes : (text : List ℕ) (at end : ℕ) (glue : Option Token) (nesting : Nesting) (tokens : List Token)
+    → TokensRead text at glue nesting tokens
     → IsWhiteRead text at end → ReadTo text end nesting tokens
 past_white_bytes text at end glue nesting tokens r w =
     let white = take w.len (drop at text) in
     let after = drop w.len (drop at text) in
     let there : after ≡ drop end text = drop-drop w.len at text ∙ ap (λ k. drop k text) (sym w.end_is) in
     let bytes : take end text ≡ take at text ++ white = ap (λ k. take k text) w.end_is ∙ take-add at w.len text in
-    let step = white_step glue nesting white after w.white (ap (touches glue) (take-append-drop w.len (drop at text)) ∙ r.touch) in
+    let step = white_step glue nesting white after w.white
+    (ap (touches glue) (take-append-drop w.len (drop at text)) ∙ r.touch) in
     record {
       fits = w.fits;
       utf8 = white_utf8 text at end w r.utf8;
@@ -166,11 +207,15 @@ past_white_bytes text at end glue nesting tokens r w =
       settled = r.settled;
       glue = step.next;
       touch = ap (touches step.next) (sym there) ∙ step.touch;
-      leads = subst (λ e. Leads (Rest start) (Glued (touches step.next) (Rest nesting)) (take e text) (drop e text)) (sym w.end_is)
-          (stage_on (Rest start) (Glued (touches glue) (Rest nesting)) (Glued (touches step.next) (Rest nesting)) text at w.len r.leads step.leads);
+      leads = subst (λ e. Leads (Rest start) (Glued (touches step.next) (Rest nesting)) (take e text) (drop e text))
+          (sym w.end_is)
+          (stage_on (Rest start) (Glued (touches glue) (Rest nesting))
+          (Glued (touches step.next) (Rest nesting)) text at w.len r.leads step.leads);
       spelt = λ more others touch said.
           let one = step.spelt more others touch said in
-          subst (λ t. Spelt true t (tokens ++ others)) (sym (ap (λ t. t ++ more) bytes ∙ append_assoc (take at text) white more)) (r.spelt (white ++ more) others one.0 one.1);
+          subst (λ t. Spelt true t (tokens ++ others))
+          (sym (ap (λ t. t ++ more) bytes ∙ append_assoc (take at text) white more))
+          (r.spelt (white ++ more) others one.0 one.1);
       goes = r.goes;
     }
 
@@ -191,16 +236,24 @@ taken_first [] more k some there = absurd (omega arith)
 taken_first (x ∷ rest) more zero some there = absurd (omega arith)
 taken_first (x ∷ rest) more (suc k) some there = refl
 
-token_leads : (glue : Option Token) (nesting : Nesting) (rest : List ℕ) (token : Token) (len : ℕ) (t : IsTokenRead nesting rest token len) → touches glue rest ≡ true
-    → Leads (Glued (touches glue) (Rest nesting)) (Glued (touches (Some token)) (Rest t.next)) (take len rest) (drop len rest)
+token_leads : (glue : Option Token) (nesting : Nesting) (rest : List ℕ) (token : Token) (len : ℕ)
+    (t : IsTokenRead nesting rest token len) → touches glue rest ≡ true
+    → Leads (Glued (touches glue) (Rest nesting)) (Glued (touches (Some token)) (Rest t.next)) (take len rest)
+    (drop len rest)
 token_leads glue nesting rest token len t touch = record {
-  forth = λ strict more said. (touch_as glue (take len rest ++ more) rest (taken_first rest more len t.some (omega (arith, t.some, t.fits))) touch, t.leads.forth strict more said);
+  forth = λ strict more said. (
+    touch_as glue (take len rest ++ more) rest
+        (taken_first rest more len t.some (omega (arith, t.some, t.fits))) touch,
+    t.leads.forth strict more said,
+  );
   back = λ strict more same said. t.leads.back strict more same said.1;
 }
 
 -- one more token
-pub read_token : (text : List ℕ) (at : ℕ) (nesting next : Nesting) (tokens : List Token) (token : Token) (len end : ℕ) → ReadTo text at nesting tokens
-    → IsTokenRead nesting (drop at text) token len → moves nesting token ≡ Some next → IsWhiteRead text (at + len) end → ReadTo text end next (tokens ++ token ∷ [])
+pub read_token : (text : List ℕ) (at : ℕ) (nesting next : Nesting) (tokens : List Token) (token : Token) (len end : ℕ)
+    → ReadTo text at nesting tokens
+    → IsTokenRead nesting (drop at text) token len → moves nesting token ≡ Some next → IsWhiteRead text (at + len) end
+    → ReadTo text end next (tokens ++ token ∷ [])
 read_token text at nesting next tokens token len end r t moved w =
     let rest = drop at text in
     let there = drop-drop len at text in
@@ -210,16 +263,21 @@ read_token text at nesting next tokens token len end r t moved w =
       utf8 = subst IsUtf8 there t.utf8;
       settled = subst IsSettled same_next t.settled;
       touch = ap (follows token) (sym there) ∙ t.follows_it;
-      leads = subst (λ n. Leads (Rest start) (Glued (touches (Some token)) (Rest n)) (take (at + len) text) (drop (at + len) text)) same_next
-          (stage_on (Rest start) (Glued (touches r.glue) (Rest nesting)) (Glued (touches (Some token)) (Rest t.next)) text at len r.leads
+      leads = subst (λ n. Leads (Rest start) (Glued (touches (Some token)) (Rest n)) (take (at + len) text)
+          (drop (at + len) text)) same_next
+          (stage_on (Rest start) (Glued (touches r.glue) (Rest nesting))
+          (Glued (touches (Some token)) (Rest t.next)) text at len r.leads
           (token_leads r.glue nesting rest token len t r.touch));
       spelt = λ more others touch said.
           subst (Spelt true (take (at + len) text ++ more)) (sym (append_assoc tokens (token ∷ []) others))
-          (subst (λ s. Spelt true s (tokens ++ token ∷ others)) (sym (ap (λ b. b ++ more) (take-add at len text) ∙ append_assoc (take at text) (take len rest) more))
+          (subst (λ s. Spelt true s (tokens ++ token ∷ others))
+          (sym (ap (λ b. b ++ more) (take-add at len text) ∙ append_assoc (take at text) (take len rest) more))
           (r.spelt (take len rest ++ more) (token ∷ others)
-          (touch_as r.glue (take len rest ++ more) rest (taken_first rest more len t.some (omega (arith, t.some, t.fits))) r.touch)
+          (touch_as r.glue (take len rest ++ more) rest
+          (taken_first rest more len t.some (omega (arith, t.some, t.fits))) r.touch)
           ([], take len rest, more, refl, refl, t.is, touch, said)));
-      goes = λ others. ap (runs (Some start)) (append_assoc tokens (token ∷ []) others) ∙ (r.goes (token ∷ others) ∙ ap (λ m. runs m others) moved);
+      goes = λ others. ap (runs (Some start)) (append_assoc tokens (token ∷ []) others)
+          ∙ (r.goes (token ∷ others) ∙ ap (λ m. runs m others) moved);
     }) w
   where
     some_same : (a b : Nesting) → Some a ≡ Some b → a ≡ b
@@ -236,14 +294,23 @@ fault_there : (text : List ℕ) (place : ℕ) → IsFault (Rest start) text plac
 fault_there text place (inl b) = inl (breaks_as AQuery (Rest start) text place (query_leads text) b)
 fault_there text place (inr p) = inr (past_as AQuery (Rest start) text place (query_leads text) p)
 
-glued_begins : (glue : Option Token) (nesting : Nesting) (rest : List ℕ) (k : ℕ) → 0 < length rest → touches glue rest ≡ true
-    → ((more : List ℕ) × Rest nesting true (take k rest ++ more)) → (more : List ℕ) × Glued (touches glue) (Rest nesting) true (take k rest ++ more)
+glued_begins : (glue : Option Token) (nesting : Nesting) (rest : List ℕ) (k : ℕ) → 0 < length rest
+    → touches glue rest ≡ true
+    → ((more : List ℕ) × Rest nesting true (take k rest ++ more)) → (more : List ℕ)
+    × Glued (touches glue) (Rest nesting) true (take k rest ++ more)
 glued_begins glue nesting rest zero some touch (more, said) =
     (32 ∷ more, (white_touch glue more, (said.0, white_spelt true more said.0 said.1, said.2)))
-glued_begins glue nesting rest (suc k) some touch (more, said) =
-    (more, (touch_as glue (take (suc k) rest ++ more) rest (taken_first rest more (suc k) (omega arith) some) touch, said))
+glued_begins glue nesting rest (suc k) some touch (more, said) = (
+  more,
+  (
+    touch_as glue (take (suc k) rest ++ more) rest
+        (taken_first rest more (suc k) (omega arith) some) touch,
+    said,
+  ),
+)
 
-glued_fault : (glue : Option Token) (nesting : Nesting) (rest : List ℕ) (place : ℕ) → 0 < length rest → touches glue rest ≡ true → BreaksThere (Rest nesting) rest place
+glued_fault : (glue : Option Token) (nesting : Nesting) (rest : List ℕ) (place : ℕ) → 0 < length rest
+    → touches glue rest ≡ true → BreaksThere (Rest nesting) rest place
     → IsFault (Glued (touches glue) (Rest nesting)) rest place
 glued_fault glue nesting rest place some touch (inl b) = inl (record {
   within = b.within;
@@ -261,21 +328,38 @@ glued_fault glue nesting rest place some touch (inr (far, p)) =
       here = p.here;
       is = p.is;
       past = p.past;
-      begins = (begins.0, (touch_as glue (take place rest ++ 45 ∷ begins.0) rest (taken_first rest (45 ∷ begins.0) place far some) touch, begins.1));
-      reads = (reads.0, (touch_as glue (take place rest ++ (p.numeral ++ reads.0)) rest (taken_first rest (p.numeral ++ reads.0) place far some) touch, reads.1));
+      begins = (
+        begins.0,
+        (
+          touch_as glue (take place rest ++ 45 ∷ begins.0) rest
+              (taken_first rest (45 ∷ begins.0) place far some) touch,
+          begins.1,
+        ),
+      );
+      reads = (
+        reads.0,
+        (
+          touch_as glue (take place rest ++ (p.numeral ++ reads.0)) rest
+              (taken_first rest (p.numeral ++ reads.0) place far some) touch,
+          reads.1,
+        ),
+      );
       never = λ more said. p.never more said.1;
     })
 
 -- a fault at the next token
-pub read_fault : (text : List ℕ) (at place : ℕ) (nesting : Nesting) (tokens : List Token) → ReadTo text at nesting tokens → at < length text
+pub read_fault : (text : List ℕ) (at place : ℕ) (nesting : Nesting) (tokens : List Token)
+    → ReadTo text at nesting tokens → at < length text
     → BreaksThere (Rest nesting) (drop at text) place → IsFault AQuery text (at + place)
 read_fault text at place nesting tokens r inside b =
-    fault_there text (at + place) (stage_fault (Rest start) (Glued (touches r.glue) (Rest nesting)) text at place r.fits r.leads
+    fault_there text (at + place) (stage_fault (Rest start)
+    (Glued (touches r.glue) (Rest nesting)) text at place r.fits r.leads
     (glued_fault r.glue nesting (drop at text) place (omega (arith, length-drop at text)) r.touch b))
 
 nothing_spelt : (nesting : Nesting) (strict : Bool) → is_done nesting ≡ false → Rest nesting strict [] → ⊥
 nothing_spelt nesting strict open_still ([], spelt, goes) = true≢false (sym goes ∙ open_still)
-nothing_spelt nesting strict open_still (token ∷ tokens, (white, spelling, rest, are, is, token_is, follows_it, spelt), goes) =
+nothing_spelt nesting strict open_still
+    (token ∷ tokens, (white, spelling, rest, are, is, token_is, follows_it, spelt), goes) =
     no_token strict token (subst (λ s. IsToken strict s token) (none white spelling rest are) token_is)
   where
     none : (a b c : List ℕ) → [] ≡ a ++ (b ++ c) → b ≡ []
@@ -284,14 +368,16 @@ nothing_spelt nesting strict open_still (token ∷ tokens, (white, spelling, res
     none (x ∷ a) b c same = cc
 
 -- the text ends too early
-pub read_short : (text : List ℕ) (at : ℕ) (nesting : Nesting) (tokens : List Token) → ReadTo text at nesting tokens → length text ≤ at → is_done nesting ≡ false
+pub read_short : (text : List ℕ) (at : ℕ) (nesting : Nesting) (tokens : List Token) → ReadTo text at nesting tokens
+    → length text ≤ at → is_done nesting ≡ false
     → IsFault AQuery text at
 read_short text at nesting tokens r over open_still =
     let none : drop at text ≡ [] = drop_all at text over in
     let there : at + 0 ≡ at = omega arith in
     let end = ends_somehow nesting true r.settled in
     fault_there text at (subst (IsFault (Rest start) text) there
-    (stage_fault (Rest start) (Glued (touches r.glue) (Rest nesting)) text at 0 r.fits r.leads (subst (λ d. IsFault (Glued (touches r.glue) (Rest nesting)) d 0) (sym none)
+    (stage_fault (Rest start) (Glued (touches r.glue) (Rest nesting)) text at 0 r.fits r.leads
+    (subst (λ d. IsFault (Glued (touches r.glue) (Rest nesting)) d 0) (sym none)
     (inl (record {
       within = omega arith;
       begins = (32 ∷ end.0, (white_touch r.glue end.0, end.1));
@@ -300,7 +386,8 @@ read_short text at nesting tokens r over open_still =
     })))))
 
 -- the text is a query
-pub read_whole : (text : List ℕ) (at : ℕ) (nesting : Nesting) (tokens : List Token) → ReadTo text at nesting tokens → length text ≤ at → is_done nesting ≡ true
+pub read_whole : (text : List ℕ) (at : ℕ) (nesting : Nesting) (tokens : List Token) → ReadTo text at nesting tokens
+    → length text ≤ at → is_done nesting ≡ true
     → IsQueryText true text tokens
 read_whole text at nesting tokens r over done =
     let none : drop at text ≡ [] = drop_all at text over in

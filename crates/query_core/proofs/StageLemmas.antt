@@ -22,20 +22,24 @@ word_leads word rest N = record {
 }
 
 -- the byte at a place that both texts have
-pub byte_there : (text more : List ℕ) (n : ℕ) → n < length text → get_or (take (n + 1) text ++ more) n 0 ≡ get_or text n 0
+pub byte_there : (text more : List ℕ) (n : ℕ) → n < length text
+    → get_or (take (n + 1) text ++ more) n 0 ≡ get_or text n 0
 byte_there text more n h =
-    get_or_append_left (take (n + 1) text) more 0 n (omega (arith, length-take (n + 1) text)) ∙ get_or-take (n + 1) text n 0 (omega arith)
+    get_or_append_left (take (n + 1) text) more 0 n (omega (arith, length-take (n + 1) text))
+    ∙ get_or-take (n + 1) text n 0 (omega arith)
 
 -- the text has n bytes of the word, and another byte after them
 pub word_breaks : (word rest : List ℕ) (n : ℕ) (N : Bool → List ℕ → Type 0) → Live N → n < length word → n ≤ length rest
-    → take n rest ≡ take n word → (n < length rest → get_or rest n 0 ≡ get_or word n 0 → ⊥) → BreaksOff (Word word N) rest n
+    → take n rest ≡ take n word → (n < length rest → get_or rest n 0 ≡ get_or word n 0 → ⊥)
+    → BreaksOff (Word word N) rest n
 word_breaks word rest n N live fits within same differs = record {
   within = within;
   begins = (
     drop n word ++ live.0,
     (
       live.0,
-      ap (λ t. t ++ (drop n word ++ live.0)) same ∙ (sym (append_assoc (take n word) (drop n word) live.0) ∙ ap (λ t. t ++ live.0) (take-append-drop n word)),
+      ap (λ t. t ++ (drop n word ++ live.0)) same
+          ∙ (sym (append_assoc (take n word) (drop n word) live.0) ∙ ap (λ t. t ++ live.0) (take-append-drop n word)),
       live.1,
     ),
   );
@@ -45,7 +49,8 @@ word_breaks word rest n N live fits within same differs = record {
 }
 
 pub word_faults : (word rest : List ℕ) (n : ℕ) (N : Bool → List ℕ → Type 0) → Live N → n < length word → n ≤ length rest
-    → take n rest ≡ take n word → (n < length rest → get_or rest n 0 ≡ get_or word n 0 → ⊥) → IsFault (Word word N) rest n
+    → take n rest ≡ take n word → (n < length rest → get_or rest n 0 ≡ get_or word n 0 → ⊥)
+    → IsFault (Word word N) rest n
 word_faults word rest n N live fits within same differs = inl (word_breaks word rest n N live fits within same differs)
 
 abbrev pub Sharp : (Bool → List ℕ → Type 0) → Type 0
@@ -71,29 +76,37 @@ past_sharp (x ∷ rest) = by_white (is_white x) refl (past_sharp rest)
     by_white false is more = rw (is, is) refl
 
 -- white bytes end where a byte that isn't white stands
-white_split : (one two a b : List ℕ) → all_white one ≡ true → all_white two ≡ true → is_sharp a ≡ true → is_sharp b ≡ true → one ++ a ≡ two ++ b → a ≡ b
+white_split : (one two a b : List ℕ) → all_white one ≡ true → all_white two ≡ true → is_sharp a ≡ true
+    → is_sharp b ≡ true → one ++ a ≡ two ++ b → a ≡ b
 white_split one two a b white also keen sharp_b same =
-    sym (sharp_past a keen) ∙ (sym (skip_white one a white) ∙ (ap past_white same ∙ (skip_white two b also ∙ sharp_past b sharp_b)))
+    sym (sharp_past a keen) ∙ (sym (skip_white one a white)
+    ∙ (ap past_white same ∙ (skip_white two b also ∙ sharp_past b sharp_b)))
 
 -- what `white_len` counts
-pub white_counted : (rest : List ℕ) (n : ℕ) → drop n rest ≡ past_white rest → (all_white (take n rest) ≡ true) × (is_sharp (drop n rest) ≡ true)
+pub white_counted : (rest : List ℕ) (n : ℕ) → drop n rest ≡ past_white rest → (all_white (take n rest) ≡ true)
+    × (is_sharp (drop n rest) ≡ true)
 white_counted rest n is =
     let parts = split_white rest in
-    let same : take n rest ++ past_white rest ≡ parts.0 ++ past_white rest = ap (λ d. take n rest ++ d) (sym is) ∙ (take-append-drop n rest ∙ parts.1) in
+    let same : take n rest ++ past_white rest ≡ parts.0 ++ past_white rest = ap (λ d. take n rest ++ d) (sym is)
+    ∙ (take-append-drop n rest ∙ parts.1) in
     (rw (append_cancel_right (take n rest) parts.0 (past_white rest) same) parts.2, rw is (past_sharp rest))
 
-pub white_leads : (white rest : List ℕ) (N : Bool → List ℕ → Type 0) → Sharp N → all_white white ≡ true → is_sharp rest ≡ true → Leads (White N) N white rest
+pub white_leads : (white rest : List ℕ) (N : Bool → List ℕ → Type 0) → Sharp N → all_white white ≡ true
+    → is_sharp rest ≡ true → Leads (White N) N white rest
 white_leads white rest N keen is dark = record {
   forth = λ strict more said. (white, more, refl, is, said);
   back = λ strict more same (other, after, are, also, said).
-      subst (N strict) (sym (white_split white other more after is also (ap sharp_of same ∙ dark) (keen strict after said) are)) said;
+      subst (N strict) (sym (white_split white other more after is also (ap sharp_of same ∙ dark)
+      (keen strict after said) are)) said;
 }
 
-pub gap_leads : (gap rest : List ℕ) (N : Bool → List ℕ → Type 0) → Sharp N → IsGap gap → is_sharp rest ≡ true → Leads (Gap N) N gap rest
+pub gap_leads : (gap rest : List ℕ) (N : Bool → List ℕ → Type 0) → Sharp N → IsGap gap → is_sharp rest ≡ true
+    → Leads (Gap N) N gap rest
 gap_leads gap rest N keen is dark = record {
   forth = λ strict more said. (gap, more, refl, is, said);
   back = λ strict more same (other, after, are, also, said).
-      subst (N strict) (sym (white_split gap other more after is.1 also.1 (ap sharp_of same ∙ dark) (keen strict after said) are)) said;
+      subst (N strict) (sym (white_split gap other more after is.1 also.1 (ap sharp_of same ∙ dark)
+      (keen strict after said) are)) said;
 }
 
 no_gap : (rest gap after : List ℕ) → is_sharp rest ≡ true → IsGap gap → rest ≡ gap ++ after → ⊥
@@ -108,7 +121,8 @@ pub gap_faults : (rest : List ℕ) (N : Bool → List ℕ → Type 0) → Live N
 gap_faults rest N live dark = inl (record {
   within = omega arith;
   begins = (32 ∷ live.0, (32 ∷ [], live.0, refl, ((λ e. cc), refl), live.1));
-  ends = λ inside more (gap, after, are, is, said). no_gap (take (0 + 1) rest ++ more) gap after (ap sharp_of (first_taken rest more 0 inside) ∙ dark) is are;
+  ends = λ inside more (gap, after, are, is, said). no_gap (take (0 + 1) rest ++ more) gap after
+      (ap sharp_of (first_taken rest more 0 inside) ∙ dark) is are;
   short = λ whole (gap, after, are, is, said). no_gap rest gap after dark is are;
 })
 

@@ -37,22 +37,27 @@ pub record TokenFirst (nesting : Nesting) (strict : Bool) (text : List ℕ) : Ty
 not_white : (x : ℕ) → not (is_white x) ≡ true → is_white x ≡ true → ⊥
 not_white x dark white = let bad : false ≡ true = sym (ap not white) ∙ dark in cc
 
-pub token_first : (nesting : Nesting) (strict : Bool) (x : ℕ) (text : List ℕ) → not (is_white x) ≡ true → Rest nesting strict (x ∷ text) → TokenFirst nesting strict (x ∷ text)
-token_first nesting strict x text dark ([], spelt, goes) = absurd (not_white x dark (both (is_white x) (all_white text) spelt).0)
-token_first nesting strict x text dark (token ∷ tokens, ([], spelling, rest, are, white_is, is, follows_it, spelt), goes) = record {
-  token = token;
-  spelling = spelling;
-  rest = rest;
-  tokens = tokens;
-  are = are;
-  is = is;
-  follows_it = follows_it;
-  spelt = spelt;
-  goes = goes;
-}
-token_first nesting strict x text dark (token ∷ tokens, (y ∷ white, spelling, rest, are, white_is, is, follows_it, spelt), goes) =
+pub token_first : (nesting : Nesting) (strict : Bool) (x : ℕ) (text : List ℕ) → not (is_white x) ≡ true
+    → Rest nesting strict (x ∷ text) → TokenFirst nesting strict (x ∷ text)
+token_first nesting strict x text dark ([], spelt, goes) =
+    absurd (not_white x dark (both (is_white x) (all_white text) spelt).0)
+token_first nesting strict x text dark
+    (token ∷ tokens, ([], spelling, rest, are, white_is, is, follows_it, spelt), goes) = record {
+      token = token;
+      spelling = spelling;
+      rest = rest;
+      tokens = tokens;
+      are = are;
+      is = is;
+      follows_it = follows_it;
+      spelt = spelt;
+      goes = goes;
+    }
+token_first nesting strict x text dark
+    (token ∷ tokens, (y ∷ white, spelling, rest, are, white_is, is, follows_it, spelt), goes) =
     let byte : x ≡ y = cc in
-    absurd (not_white x dark (subst (λ z. is_white z ≡ true) (sym byte) (both (is_white y) (all_white white) white_is).0))
+    absurd (not_white x dark (subst (λ z. is_white z ≡ true) (sym byte)
+    (both (is_white y) (all_white white) white_is).0))
 
 -- the byte with which a token begins, and 0 for a test
 unfoldable pub class_of : Token → ℕ
@@ -67,7 +72,8 @@ class_of (Test field test) = 0
 unfoldable pub class_byte : ℕ → ℕ
 class_byte x = if (x == 105) || (x == 116) || (x == 47) then 0 else x
 
-field_class : (name rest : List ℕ) (field : Field) (x : ℕ) → IsField name field → first (name ++ rest) ≡ Some x → class_byte x ≡ 0
+field_class : (name rest : List ℕ) (field : Field) (x : ℕ) → IsField name field → first (name ++ rest) ≡ Some x
+    → class_byte x ≡ 0
 unfolding class_byte
 field_class name rest Id x is head =
     let byte : Some 105 ≡ Some x = ap (λ n. first (n ++ rest)) (sym is) ∙ head in
@@ -79,25 +85,33 @@ field_class name rest (Pointer tokens) x is head =
     let byte : Some 47 ≡ Some x = ap (λ n. first (n ++ rest)) (sym is.1) ∙ head in
     let same : 47 ≡ x = cc in rw (sym same) refl
 
-word_class : (word spelling rest : List ℕ) (x h : ℕ) → first (word ++ rest) ≡ Some h → class_byte h ≡ h → spelling ≡ word → first (spelling ++ rest) ≡ Some x → class_byte x ≡ h
+word_class : (word spelling rest : List ℕ) (x h : ℕ) → first (word ++ rest) ≡ Some h → class_byte h ≡ h
+    → spelling ≡ word → first (spelling ++ rest) ≡ Some x → class_byte x ≡ h
 word_class word spelling rest x h head plain is said =
     let byte : Some x ≡ Some h = sym said ∙ (ap (λ s. first (s ++ rest)) is ∙ head) in
     let same : x ≡ h = cc in ap class_byte same ∙ plain
 
-pub plain_class : (class_byte 40 ≡ 40) × (class_byte 41 ≡ 41) × (class_byte 78 ≡ 78) × (class_byte 65 ≡ 65) × (class_byte 79 ≡ 79) × (class_byte 42 ≡ 42)
+pub plain_class : (class_byte 40 ≡ 40) × (class_byte 41 ≡ 41) × (class_byte 78 ≡ 78) × (class_byte 65 ≡ 65)
+    × (class_byte 79 ≡ 79) × (class_byte 42 ≡ 42)
 unfolding class_byte
 plain_class = (refl, refl, refl, refl, refl, refl)
 
-pub token_class : (strict : Bool) (spelling rest : List ℕ) (token : Token) (x : ℕ) → IsToken strict spelling token → first (spelling ++ rest) ≡ Some x → class_byte x ≡ class_of token
+pub token_class : (strict : Bool) (spelling rest : List ℕ) (token : Token) (x : ℕ) → IsToken strict spelling token
+    → first (spelling ++ rest) ≡ Some x → class_byte x ≡ class_of token
 unfolding class_of
 token_class strict spelling rest Open x is head = word_class (40 ∷ []) spelling rest x 40 refl plain_class.0 is head
 token_class strict spelling rest Close x is head = word_class (41 ∷ []) spelling rest x 41 refl plain_class.1 is head
-token_class strict spelling rest Not x is head = word_class (78 ∷ 79 ∷ 84 ∷ []) spelling rest x 78 refl plain_class.2 is head
-token_class strict spelling rest And x is head = word_class (65 ∷ 78 ∷ 68 ∷ []) spelling rest x 65 refl plain_class.3 is head
+token_class strict spelling rest Not x is head =
+    word_class (78 ∷ 79 ∷ 84 ∷ []) spelling rest x 78 refl plain_class.2 is head
+token_class strict spelling rest And x is head =
+    word_class (65 ∷ 78 ∷ 68 ∷ []) spelling rest x 65 refl plain_class.3 is head
 token_class strict spelling rest Or x is head = word_class (79 ∷ 82 ∷ []) spelling rest x 79 refl plain_class.4 is head
-token_class strict spelling rest Every x is head = word_class (42 ∷ 58 ∷ 42 ∷ []) spelling rest x 42 refl plain_class.5 is head
+token_class strict spelling rest Every x is head =
+    word_class (42 ∷ 58 ∷ 42 ∷ []) spelling rest x 42 refl plain_class.5 is head
 token_class strict spelling rest (Test field test) x is head =
-    field_class is.0 (58 ∷ (is.1 ++ is.2) ++ rest) field x is.4 (ap first (sym (append_assoc is.0 (58 ∷ (is.1 ++ is.2)) rest)) ∙ (ap (λ s. first (s ++ rest)) (sym is.3) ∙ head))
+    field_class is.0 (58 ∷ (is.1 ++ is.2) ++ rest) field x is.4
+    (ap first (sym (append_assoc is.0 (58 ∷ (is.1 ++ is.2)) rest))
+    ∙ (ap (λ s. first (s ++ rest)) (sym is.3) ∙ head))
 
 unfoldable pub decode : ℕ → Option Token
 decode x =
@@ -126,7 +140,8 @@ only token kw h is some said = by_case (decoded token)
 pub no_runs : (tokens : List Token) → runs None tokens ≡ true → ⊥
 no_runs tokens said = cc
 
-dark_as : (x : ℕ) (more rest : List ℕ) → first more ≡ first rest → first rest ≡ Some x → (tail : List ℕ) × (more ≡ x ∷ tail)
+dark_as : (x : ℕ) (more rest : List ℕ) → first more ≡ first rest → first rest ≡ Some x → (tail : List ℕ)
+    × (more ≡ x ∷ tail)
 dark_as x [] rest same head = let bad : None ≡ Some x = same ∙ head in cc
 dark_as x (y ∷ more) rest same head =
     let byte : Some y ≡ Some x = same ∙ head in
@@ -142,30 +157,42 @@ pub record Keyword (kw : Token) (word : List ℕ) (h : ℕ) : Type 0 where
   pub writes : (strict : Bool) → IsToken strict word kw
   pub written : (strict : Bool) (spelling : List ℕ) → IsToken strict spelling kw → spelling ≡ word
 
-kw_goes : (nesting next : Nesting) (kw token : Token) (word : List ℕ) (strict : Bool) (spelling rest : List ℕ) (tokens : List Token)
-    → moves nesting kw ≡ Some next → token ≡ kw → ((s : List ℕ) → IsToken strict s kw → s ≡ word) → IsToken strict spelling token → follows token rest ≡ true
-    → Spelt strict rest tokens → runs (moves nesting token) tokens ≡ true → Word word (Glued (follows kw) (Rest next)) strict (spelling ++ rest)
+kw_goes : (nesting next : Nesting) (kw token : Token) (word : List ℕ) (strict : Bool) (spelling rest : List ℕ)
+    (tokens : List Token)
+    → moves nesting kw ≡ Some next → token ≡ kw → ((s : List ℕ) → IsToken strict s kw → s ≡ word)
+    → IsToken strict spelling token → follows token rest ≡ true
+    → Spelt strict rest tokens → runs (moves nesting token) tokens ≡ true
+    → Word word (Glued (follows kw) (Rest next)) strict (spelling ++ rest)
 kw_goes nesting next kw token word strict spelling rest tokens moved same written is follows_it spelt goes =
     let spelled : spelling ≡ word = written spelling (subst (IsToken strict spelling) same is) in (
       rest,
       ap (λ s. s ++ rest) spelled,
       (
         subst (λ t. follows t rest ≡ true) same follows_it,
-        (tokens, spelt, ap (λ m. runs m tokens) (sym moved) ∙ (ap (λ t. runs (moves nesting t) tokens) (sym same) ∙ goes)),
+        (
+          tokens,
+          spelt,
+          ap (λ m. runs m tokens) (sym moved)
+              ∙ (ap (λ t. runs (moves nesting t) tokens) (sym same) ∙ goes),
+        ),
       ),
     )
 
-kw_back : (nesting next : Nesting) (kw : Token) (word : List ℕ) (h : ℕ) (strict : Bool) (text : List ℕ) → Keyword kw word h → moves nesting kw ≡ Some next
+kw_back : (nesting next : Nesting) (kw : Token) (word : List ℕ) (h : ℕ) (strict : Bool) (text : List ℕ)
+    → Keyword kw word h → moves nesting kw ≡ Some next
     → Rest nesting strict (h ∷ text) → Word word (Glued (follows kw) (Rest next)) strict (h ∷ text)
 kw_back nesting next kw word h strict text k moved said =
     let t = token_first nesting strict h text k.dark said in
-    let class : class_byte h ≡ class_of t.token = token_class strict t.spelling t.rest t.token h t.is (ap first (sym t.are)) in
+    let class : class_byte h ≡ class_of t.token =
+    token_class strict t.spelling t.rest t.token h t.is (ap first (sym t.are)) in
     let same = only t.token kw h (sym class ∙ k.plain) k.some k.code in
     subst (Word word (Glued (follows kw) (Rest next)) strict) (sym t.are)
-    (kw_goes nesting next kw t.token word strict t.spelling t.rest t.tokens moved same (k.written strict) t.is t.follows_it t.spelt t.goes)
+    (kw_goes nesting next kw t.token word strict t.spelling t.rest t.tokens moved same
+    (k.written strict) t.is t.follows_it t.spelt t.goes)
 
 -- a keyword at the head
-pub kw_leads : (nesting next : Nesting) (kw : Token) (word : List ℕ) (h : ℕ) (rest : List ℕ) → Keyword kw word h → moves nesting kw ≡ Some next
+pub kw_leads : (nesting next : Nesting) (kw : Token) (word : List ℕ) (h : ℕ) (rest : List ℕ) → Keyword kw word h
+    → moves nesting kw ≡ Some next
     → first rest ≡ Some h → Leads (Rest nesting) (Word word (Glued (follows kw) (Rest next))) [] rest
 kw_leads nesting next kw word h rest k moved head = record {
   forth = λ strict more (after, are, (glue, (tokens, spelt, goes))).
@@ -197,7 +224,8 @@ value_as [] (y ∷ rest) same = cc
 value_as (x ∷ more) [] same = cc
 value_as (x ∷ more) (y ∷ rest) same = let byte : x ≡ y = cc in rw byte refl
 
-pub follows_as : (token : Token) (more rest : List ℕ) → first more ≡ first rest → follows token more ≡ follows token rest
+pub follows_as : (token : Token) (more rest : List ℕ) → first more ≡ first rest
+    → follows token more ≡ follows token rest
 follows_as Open more rest same = refl
 follows_as Close more rest same = refl
 follows_as Not more rest same = operator_as more rest same
@@ -217,7 +245,8 @@ ending : Due → List Opened → List ℕ
 ending Term opened = 42 ∷ 58 ∷ 42 ∷ close_text opened
 ending Operator opened = close_text opened
 
-ending_goes : (due : Due) (opened : List Opened) (strict : Bool) → is_settled_by due opened → Rest (record { due = due; opened = opened }) strict (32 ∷ ending due opened)
+ending_goes : (due : Due) (opened : List Opened) (strict : Bool) → is_settled_by due opened
+    → Rest (record { due = due; opened = opened }) strict (32 ∷ ending due opened)
 unfolding ending
 ending_goes Term opened strict settled = (
   Every ∷ close_tokens opened,
@@ -232,8 +261,10 @@ ending_goes Operator opened strict settled = (
 )
 
 -- some query goes on after white bytes
-pub ends_somehow : (nesting : Nesting) (strict : Bool) → IsSettled nesting → (more : List ℕ) × Rest nesting strict (32 ∷ more)
-ends_somehow nesting strict settled = (ending nesting.due nesting.opened, ending_goes nesting.due nesting.opened strict settled)
+pub ends_somehow : (nesting : Nesting) (strict : Bool) → IsSettled nesting → (more : List ℕ)
+    × Rest nesting strict (32 ∷ more)
+ends_somehow nesting strict settled =
+    (ending nesting.due nesting.opened, ending_goes nesting.due nesting.opened strict settled)
 
 pub glued_live : (token : Token) (nesting : Nesting) → IsSettled nesting → Live (Glued (follows token) (Rest nesting))
 glued_live token nesting settled =
@@ -245,12 +276,14 @@ pub misplaced : (token : Token) (nesting : Nesting) → IsSettled nesting → (r
 misplaced token nesting settled rest wrong = record {
   within = omega arith;
   begins = glued_live token nesting settled;
-  ends = λ inside more said. true≢false (sym said.0 ∙ (follows_as token (take (0 + 1) rest ++ more) rest (first_taken rest more 0 inside) ∙ wrong));
+  ends = λ inside more said. true≢false
+      (sym said.0 ∙ (follows_as token (take (0 + 1) rest ++ more) rest (first_taken rest more 0 inside) ∙ wrong));
   short = λ whole said. true≢false (sym said.0 ∙ wrong);
 }
 
 -- no token may stand at the head
-pub stuck : (nesting : Nesting) → IsSettled nesting → (rest : List ℕ) (x : ℕ) → first rest ≡ Some x → not (is_white x) ≡ true
+pub stuck : (nesting : Nesting) → IsSettled nesting → (rest : List ℕ) (x : ℕ) → first rest ≡ Some x
+    → not (is_white x) ≡ true
     → ((token : Token) → class_byte x ≡ class_of token → moves nesting token ≡ None) → BreaksOff (Rest nesting) rest 0
 stuck nesting settled rest x head dark never = record {
   within = omega arith;
@@ -268,52 +301,113 @@ stuck nesting settled rest x head dark never = record {
 
 pub open_word : Keyword Open (40 ∷ []) 40
 unfolding class_byte decode
-open_word = record { head = λ rest. refl; some = λ e. omega arith; dark = refl; plain = refl; code = refl; writes = λ strict. refl; written = λ strict spelling is. is }
+open_word = record {
+  head = λ rest. refl;
+  some = λ e. omega arith;
+  dark = refl;
+  plain = refl;
+  code = refl;
+  writes =
+      λ strict. refl;
+  written = λ strict spelling is. is;
+}
 
 pub close_word : Keyword Close (41 ∷ []) 41
 unfolding class_byte decode
-close_word = record { head = λ rest. refl; some = λ e. omega arith; dark = refl; plain = refl; code = refl; writes = λ strict. refl; written = λ strict spelling is. is }
+close_word = record {
+  head = λ rest. refl;
+  some = λ e. omega arith;
+  dark = refl;
+  plain = refl;
+  code = refl;
+  writes =
+      λ strict. refl;
+  written = λ strict spelling is. is;
+}
 
 pub not_word : Keyword Not (78 ∷ 79 ∷ 84 ∷ []) 78
 unfolding class_byte decode
-not_word = record { head = λ rest. refl; some = λ e. omega arith; dark = refl; plain = refl; code = refl; writes = λ strict. refl; written = λ strict spelling is. is }
+not_word = record {
+  head = λ rest. refl;
+  some = λ e. omega arith;
+  dark = refl;
+  plain = refl;
+  code = refl;
+  writes =
+      λ strict. refl;
+  written = λ strict spelling is. is;
+}
 
 pub and_word : Keyword And (65 ∷ 78 ∷ 68 ∷ []) 65
 unfolding class_byte decode
-and_word = record { head = λ rest. refl; some = λ e. omega arith; dark = refl; plain = refl; code = refl; writes = λ strict. refl; written = λ strict spelling is. is }
+and_word = record {
+  head = λ rest. refl;
+  some = λ e. omega arith;
+  dark = refl;
+  plain = refl;
+  code = refl;
+  writes =
+      λ strict. refl;
+  written = λ strict spelling is. is;
+}
 
 pub or_word : Keyword Or (79 ∷ 82 ∷ []) 79
 unfolding class_byte decode
-or_word = record { head = λ rest. refl; some = λ e. omega arith; dark = refl; plain = refl; code = refl; writes = λ strict. refl; written = λ strict spelling is. is }
+or_word = record {
+  head = λ rest. refl;
+  some = λ e. omega arith;
+  dark = refl;
+  plain = refl;
+  code = refl;
+  writes =
+      λ strict. refl;
+  written = λ strict spelling is. is;
+}
 
 pub every_word : Keyword Every (42 ∷ 58 ∷ 42 ∷ []) 42
 unfolding class_byte decode
-every_word = record { head = λ rest. refl; some = λ e. omega arith; dark = refl; plain = refl; code = refl; writes = λ strict. refl; written = λ strict spelling is. is }
+every_word = record {
+  head = λ rest. refl;
+  some = λ e. omega arith;
+  dark = refl;
+  plain = refl;
+  code = refl;
+  writes =
+      λ strict. refl;
+  written = λ strict spelling is. is;
+}
 
 -- the keyword was read
-pub kw_read : (nesting next : Nesting) (kw : Token) (word : List ℕ) (h : ℕ) (rest : List ℕ) → Keyword kw word h → moves nesting kw ≡ Some next
-    → first rest ≡ Some h → IsKeyword rest word kw → Leads (Rest nesting) (Glued (follows kw) (Rest next)) (take (length word) rest) (drop (length word) rest)
+pub kw_read : (nesting next : Nesting) (kw : Token) (word : List ℕ) (h : ℕ) (rest : List ℕ) → Keyword kw word h
+    → moves nesting kw ≡ Some next
+    → first rest ≡ Some h → IsKeyword rest word kw
+    → Leads (Rest nesting) (Glued (follows kw) (Rest next)) (take (length word) rest) (drop (length word) rest)
 kw_read nesting next kw word h rest k moved head is =
     let N = Glued (follows kw) (Rest next) in
     let after = drop (length word) rest in
     let whole : rest ≡ word ++ after = sym (take-append-drop (length word) rest) ∙ ap (λ t. t ++ after) is.is in
     subst (λ t. Leads (Rest nesting) N t after) (sym is.is)
-    (lead_on (Rest nesting) (Word word N) N [] word after (subst (Leads (Rest nesting) (Word word N) []) whole (kw_leads nesting next kw word h rest k moved head))
+    (lead_on (Rest nesting) (Word word N) N [] word after
+    (subst (Leads (Rest nesting) (Word word N) []) whole (kw_leads nesting next kw word h rest k moved head))
     (word_leads word after N))
 
 -- the keyword wasn't
-pub kw_fails : (nesting next : Nesting) (kw : Token) (word : List ℕ) (h : ℕ) (rest : List ℕ) (place : ℕ) → Keyword kw word h → moves nesting kw ≡ Some next
+pub kw_fails : (nesting next : Nesting) (kw : Token) (word : List ℕ) (h : ℕ) (rest : List ℕ) (place : ℕ)
+    → Keyword kw word h → moves nesting kw ≡ Some next
     → IsSettled next → first rest ≡ Some h → BreaksKeyword rest word kw place → BreaksOff (Rest nesting) rest place
 kw_fails nesting next kw word h rest place k moved settled head (inl (short, shared)) =
     let N = Glued (follows kw) (Rest next) in
     breaks_as (Rest nesting) (Word word N) rest place (kw_leads nesting next kw word h rest k moved head)
-    (word_breaks word rest place N (glued_live kw next settled) short shared.text shared.same (λ inside. shared.other inside short))
+    (word_breaks word rest place N (glued_live kw next settled) short shared.text shared.same
+    (λ inside. shared.other inside short))
 kw_fails nesting next kw word h rest place k moved settled head (inr (far, fits, is, wrong)) =
     let N = Glued (follows kw) (Rest next) in
     let after = drop place rest in
     let whole : rest ≡ word ++ after = sym (take-append-drop place rest) ∙ ap (λ t. t ++ after) is in
-    let leads = lead_on (Rest nesting) (Word word N) N [] word after (subst (Leads (Rest nesting) (Word word N) []) whole (kw_leads nesting next kw word h rest k moved head))
+    let leads = lead_on (Rest nesting) (Word word N) N [] word after
+    (subst (Leads (Rest nesting) (Word word N) []) whole (kw_leads nesting next kw word h rest k moved head))
     (word_leads word after N) in
     let there : length word + 0 ≡ place = omega arith in
     subst (λ t. BreaksOff (Rest nesting) t place) (sym whole)
-    (subst (BreaksOff (Rest nesting) (word ++ after)) there (breaks_on (Rest nesting) N word after 0 leads (misplaced kw next settled after wrong)))
+    (subst (BreaksOff (Rest nesting) (word ++ after)) there
+    (breaks_on (Rest nesting) N word after 0 leads (misplaced kw next settled after wrong)))

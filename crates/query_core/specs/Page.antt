@@ -11,7 +11,8 @@ cut number None hits = hits
 cut number (Some size) hits = take size (drop (number * size) hits)
 
 -- the page of the hits in order
-pub record IsPage (keys : List SortKey) (hits : List ObjectValue) (number : ℕ) (size : Option ℕ) (page : List ObjectValue) : Type 0 where
+pub record IsPage (keys : List SortKey) (hits : List ObjectValue) (number : ℕ) (size : Option ℕ)
+    (page : List ObjectValue) : Type 0 where
   pub sorted : List ObjectValue
   pub all : IsPermutation hits sorted
   pub ascends : IsSorted (by_keys keys) sorted

@@ -7,7 +7,8 @@ use Rattle.query_core.specs.Spelling.{AreDigits, number_after, opposite}
 -- 1 to 18 decimal digits, and optionally a `-` before them; such a number is in range
 abbrev pub IsShortNumeral : List ℕ → ℤ → Type 0
 IsShortNumeral bytes number = (digits : List ℕ) × AreDigits digits × (length digits ≤ 18) × IsWhole number
-    × (((bytes ≡ digits) × (number ≡ pos (number_after 0 digits))) ⊎ ((bytes ≡ 45 ∷ digits) × (number ≡ opposite (number_after 0 digits))))
+    × (((bytes ≡ digits) × (number ≡ pos (number_after 0 digits)))
+    ⊎ ((bytes ≡ 45 ∷ digits) × (number ≡ opposite (number_after 0 digits))))
 
 -- the value gives this number: it is the number, or a text that writes it
 abbrev pub IsPageNumber : Value → ℤ → Type 0

@@ -1,5 +1,7 @@
 -- How a query is read: what is open and due at a place, and what may follow there. This project's own.
-use Rattle.std.specs.Prelude.{◌≡◌, ◌≢◌, ◌≤◌, ◌<◌, ℕ, ◌+◌, ℤ, pos, List, [], ◌∷◌, ◌++◌, length, take, drop, Bool, true, false, not, ◌||◌, ◌==◌, if◌then◌else◌, ltb, Option, Some, None, ◌⊎◌, IsUtf8, slice_index}
+use Rattle.std.specs.Prelude.{◌≡◌, ◌≢◌, ◌≤◌, ◌<◌, ℕ, ◌+◌, ℤ, pos, List, [], ◌∷◌, ◌++◌, length, take, drop, Bool, true}
+use Rattle.std.specs.Prelude.{false, not, ◌||◌, ◌==◌, if◌then◌else◌, ltb, Option, Some, None, ◌⊎◌, IsUtf8}
+use Rattle.std.specs.Prelude.{slice_index}
 use Rattle.doip_json.specs.Sound.{IsWhole}
 use Rattle.dobj_field.specs.declared.reach.ScalarTest.{ScalarTest}
 use Rattle.dobj_field.specs.Field.{is_white}
@@ -14,7 +16,8 @@ use Rattle.query_core.specs.declared.query.Token.TheVariants.{Open, Close, Not, 
 use Rattle.query_core.specs.declared.scanning.Within.{Within}
 use Rattle.query_core.specs.declared.scanning.Within.TheVariants.{Word, Quotes}
 use Rattle.query_core.specs.declared.scanning.Scanned.{Scanned}
-use Rattle.query_core.specs.Spelling.{ends_word, ends_quoted, ended, taking, unescaped, is_digit, all_digits, opposite, after_value, follows, Spelt, IsBound, IsNumeral, IsValue, IsToken}
+use Rattle.query_core.specs.Spelling.{ends_word, ends_quoted, ended, taking, unescaped, is_digit, all_digits}
+use Rattle.query_core.specs.Spelling.{opposite, after_value, follows, Spelt, IsBound, IsNumeral, IsValue, IsToken}
 use Rattle.query_core.specs.Faults.{BreaksOff, PastRange, IsFault}
 use Rattle.query_core.specs.Stages.{first, Leads, Value, White, Name}
 
@@ -177,7 +180,8 @@ abbrev pub NoBound : List ℕ → ℕ → Type 0
 NoBound rest k =
     ((k ≡ 0) × (no_digit rest ≡ true) × (first rest ≢ Some 45) × (first rest ≢ Some 42))
     ⊎ ((k ≡ 1) × ((more : List ℕ) × (rest ≡ 45 ∷ more) × (no_digit more ≡ true)))
-    ⊎ ((k ≡ 0) × ((numeral more : List ℕ) × (number : ℤ) × (rest ≡ numeral ++ more) × IsNumeral numeral number × (IsWhole number → ⊥)))
+    ⊎ ((k ≡ 0) × ((numeral more : List ℕ) × (number : ℤ) × (rest ≡ numeral ++ more) × IsNumeral numeral number
+    × (IsWhole number → ⊥)))
 
 -- no bound stands at a place of a text
 abbrev pub BreaksBound : List ℕ → ℕ → ℕ → Type 0
@@ -206,7 +210,8 @@ pub record IsWordRead (bytes : List ℕ) (at : ℕ) (word : List ℕ) (end : ℕ
 
 -- the word doesn't stand at a place of a text
 abbrev pub BreaksWord : List ℕ → ℕ → List ℕ → ℕ → Type 0
-BreaksWord bytes at word place = (k : ℕ) × (place ≡ at + k) × (place ≤ length bytes) × (k < length word) × Shared (drop at bytes) word k
+BreaksWord bytes at word place = (k : ℕ) × (place ≡ at + k) × (place ≤ length bytes) × (k < length word)
+    × Shared (drop at bytes) word k
 
 -- digits, with a `-` before them or not
 abbrev pub signed : Bool → List ℕ → List ℕ
@@ -260,7 +265,8 @@ pub record IsKeyword (rest word : List ℕ) (token : Token) : Type 0 where
 abbrev pub BreaksKeyword : List ℕ → List ℕ → Token → ℕ → Type 0
 BreaksKeyword rest word token place =
     ((place < length word) × Shared rest word place)
-    ⊎ ((place ≡ length word) × (place ≤ length rest) × (take place rest ≡ word) × (follows token (drop place rest) ≡ false))
+    ⊎ ((place ≡ length word) × (place ≤ length rest) × (take place rest ≡ word)
+    × (follows token (drop place rest) ≡ false))
 
 -- only a term's end leaves an operator due
 abbrev pub IsSettled : Nesting → Type 0

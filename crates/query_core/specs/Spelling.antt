@@ -1,5 +1,6 @@
 -- How the tokens of a query are written. This project's own.
-use Rattle.std.specs.Prelude.{◌≡◌, ◌≢◌, ℕ, zero, suc, ◌+◌, ◌*◌, ◌-◌, ℤ, pos, negsuc, List, [], ◌∷◌, ◌++◌, Bool, true, false, ◌&&◌, ◌||◌, ◌==◌, leb, if◌then◌else◌, Option, Some, None, ◌⊎◌, codes}
+use Rattle.std.specs.Prelude.{◌≡◌, ◌≢◌, ℕ, zero, suc, ◌+◌, ◌*◌, ◌-◌, ℤ, pos, negsuc, List, [], ◌∷◌, ◌++◌, Bool, true}
+use Rattle.std.specs.Prelude.{false, ◌&&◌, ◌||◌, ◌==◌, leb, if◌then◌else◌, Option, Some, None, ◌⊎◌, codes}
 use Rattle.doip_json.specs.Sound.{IsWhole}
 use Rattle.dobj_field.specs.Field.{is_white, IsField}
 use Rattle.dobj_field.specs.declared.reach.ScalarTest.{ScalarTest}
@@ -22,7 +23,8 @@ ends_quoted x = x == 34
 abbrev pub taking : (ℕ → Bool) → Bool → List ℕ → Option Bool
 taking ends takes [] = Some takes
 taking ends true (x ∷ rest) = taking ends false rest
-taking ends false (x ∷ rest) = if x == 92 then taking ends true rest else if ends x then None else taking ends false rest
+taking ends false (x ∷ rest) = if x == 92 then taking ends true rest else if ends x then None else taking ends false
+    rest
 
 -- the text that bytes spell: a `\` takes the byte after it as it is
 abbrev pub unescaped : Bool → List ℕ → List ℕ
@@ -81,7 +83,8 @@ AreDigits digits = (digits ≢ []) × (all_digits digits ≡ true)
 -- decimal digits, and optionally a `-` before them
 abbrev pub IsNumeral : List ℕ → ℤ → Type 0
 IsNumeral bytes number = (digits : List ℕ) × AreDigits digits
-    × (((bytes ≡ digits) × (number ≡ pos (number_after 0 digits))) ⊎ ((bytes ≡ 45 ∷ digits) × (number ≡ opposite (number_after 0 digits))))
+    × (((bytes ≡ digits) × (number ≡ pos (number_after 0 digits)))
+    ⊎ ((bytes ≡ 45 ∷ digits) × (number ≡ opposite (number_after 0 digits))))
 
 -- In the strict grammar numbers are those of JSON values, from -2^63 to 2^64 - 1; in the other they are any.
 abbrev pub Within : Bool → ℤ → Type 0
@@ -128,7 +131,8 @@ IsToken strict bytes And = bytes ≡ codes "AND"
 IsToken strict bytes Or = bytes ≡ codes "OR"
 IsToken strict bytes Every = bytes ≡ codes "*:*"
 IsToken strict bytes (Test field test) =
-    (name white value : List ℕ) × (bytes ≡ name ++ 58 ∷ (white ++ value)) × IsField name field × (all_white white ≡ true) × IsValue strict value test
+    (name white value : List ℕ) × (bytes ≡ name ++ 58 ∷ (white ++ value)) × IsField name field
+    × (all_white white ≡ true) × IsValue strict value test
 
 -- after a word operator comes a white byte or `(`
 abbrev pub after_operator : List ℕ → Bool

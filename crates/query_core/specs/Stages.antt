@@ -11,8 +11,8 @@ abbrev pub first : List ℕ → Option ℕ
 first [] = None
 first (x ∷ rest) = Some x
 
--- After these bytes a text of the one language goes on as one of the other: always where it is one of the other, and only
--- so where it goes on with the same byte as the rest.
+-- After these bytes a text of the one language goes on as one of the other: always where it is one of the other, and
+-- only so where it goes on with the same byte as the rest.
 pub record Leads (L N : Bool → List ℕ → Type 0) (bytes rest : List ℕ) : Type 0 where
   pub forth : (strict : Bool) (more : List ℕ) → N strict more → L strict (bytes ++ more)
   pub back : (strict : Bool) (more : List ℕ) → first more ≡ first rest → L strict (bytes ++ more) → N strict more
@@ -31,15 +31,18 @@ Gap Next strict text = (gap rest : List ℕ) × (text ≡ gap ++ rest) × IsGap 
 
 -- a bound first
 abbrev pub Bound : (Bool → List ℕ → Type 0) → Bool → List ℕ → Type 0
-Bound Next strict text = (bytes rest : List ℕ) × (bound : Option ℤ) × (text ≡ bytes ++ rest) × IsBound strict bytes bound × Next strict rest
+Bound Next strict text = (bytes rest : List ℕ) × (bound : Option ℤ) × (text ≡ bytes ++ rest)
+    × IsBound strict bytes bound × Next strict rest
 
 -- a value first
 abbrev pub Value : (Bool → List ℕ → Type 0) → Bool → List ℕ → Type 0
-Value Next strict text = (bytes rest : List ℕ) × (test : ScalarTest) × (text ≡ bytes ++ rest) × IsValue strict bytes test × Next strict rest
+Value Next strict text = (bytes rest : List ℕ) × (test : ScalarTest) × (text ≡ bytes ++ rest)
+    × IsValue strict bytes test × Next strict rest
 
 -- a field and a colon first
 abbrev pub Name : (Bool → List ℕ → Type 0) → Bool → List ℕ → Type 0
-Name Next strict text = (name rest : List ℕ) × (field : Field) × (text ≡ name ++ 58 ∷ rest) × IsField name field × Next strict rest
+Name Next strict text = (name rest : List ℕ) × (field : Field) × (text ≡ name ++ 58 ∷ rest) × IsField name field
+    × Next strict rest
 
 -- what follows the `[` of a range
 abbrev pub Range : (Bool → List ℕ → Type 0) → Bool → List ℕ → Type 0

@@ -4,7 +4,8 @@ ghost use Rattle.std.specs.Option.{SomeIff};
 ghost use Rattle.doip_json.specs.Sound.{IsWhole};
 ghost use Rattle.query_core.specs.Spelling.{all_digits, is_digit, number_after};
 ghost use Rattle.query_core.specs.Stages.{first};
-ghost use Rattle.query_core.specs.Reading.{IsBoundRead, BreaksBound, IsWhiteRead, IsWordRead, BreaksWord, IsValueRead, BreaksValue, signed_number, sign_len, Headed, IsDigitRun};
+ghost use Rattle.query_core.specs.Reading.{IsBoundRead, BreaksBound, IsWhiteRead, IsWordRead, BreaksWord, IsValueRead};
+ghost use Rattle.query_core.specs.Reading.{BreaksValue, signed_number, sign_len, Headed, IsDigitRun};
 
 use crate::fault::QueryFault;
 use crate::parts::white_len;
@@ -124,7 +125,7 @@ fn is_digit(byte: u8) -> bool
 // The number that digits write, if it is in range.
 pub(crate) fn number_of(digits: &[u8], minus: bool) -> Option<Num>
     requires { all_digits digits.now ≡ true }
-    ensures { SomeIff result (IsWhole (signed_number minus (number_after 0 digits.now))) (signed_number minus (number_after 0 digits.now)) }
+    ensures { let number = signed_number minus (number_after 0 digits.now) in SomeIff result (IsWhole number) number }
 {
     let mut magnitude: u128 = 0;
     for digit in digits {

@@ -4,7 +4,8 @@ ghost use Rattle.dobj_field.specs.Breaks.{BreaksAt};
 ghost use Rattle.dobj_field.specs.Field.{IsField, NamesField};
 ghost use Rattle.query_core.specs.declared.nesting.Due.TheVariants.{Term, Operator};
 ghost use Rattle.query_core.specs.Spelling.{follows};
-ghost use Rattle.query_core.specs.Reading.{Rest, IsSettled, IsTokenRead, IsTestRead, BreaksTest, BreaksThere, IsKeyword, BreaksKeyword, is_sharp};
+ghost use Rattle.query_core.specs.Reading.{Rest, IsSettled, IsTokenRead, IsTestRead, BreaksTest, BreaksThere};
+ghost use Rattle.query_core.specs.Reading.{IsKeyword, BreaksKeyword, is_sharp};
 
 use crate::fault::QueryFault;
 use crate::nesting::{Due, Nesting};

@@ -29,7 +29,8 @@ returns-clause-number c =
     let short = c.is_short.ensures.0 (grind arith) in
     let v = signed_number m (number_after 0 (drop (sign_len m) text)) in
     some_short c.number_of.result v text (rw body at (c.number_of.ensures))
-    (λ whole. short_reads m text n v (sym c.is_minus-minus.ensures) run short.0 short.1 (omega (arith, ap length body, short.2)) whole refl)
+    (λ whole. short_reads m text n v (sym c.is_minus-minus.ensures) run short.0 short.1
+    (omega (arith, ap length body, short.2)) whole refl)
 
 pub returns-clause-none : goal.returns-clause-none
 returns-clause-none c none number said =
@@ -37,4 +38,5 @@ returns-clause-none c none number said =
     let m = c.is_minus-minus.result in
     let body = rest_is text c.sign_len.result ∙ ap (λ k. drop k text) c.sign_len.ensures in
     let known = short_known m text number (sym c.is_minus-minus.ensures) said in
-    none_short c.number_of.result (signed_number m (number_after 0 (drop (sign_len m) text))) (rw body at (c.number_of.ensures)) none known.2
+    none_short c.number_of.result (signed_number m (number_after 0 (drop (sign_len m) text)))
+    (rw body at (c.number_of.ensures)) none known.2

@@ -13,7 +13,8 @@ returns-then-len-eq0-clause-place c place is =
     let starts : start ≡ at + sign_len c.args.minus = ap (λ n. at + n) c.sign_len.ensures in
     let run = rw (rest_is text start) at (c.digits_len-len.ensures) in
     let same : start ≡ place = cc in
-    rw (sym same) (numeral_lacks text at c.args.minus start c.digits_len-len.result c.requires.within c.requires.head starts run c.if-len-eq0.true
+    rw (sym same) (numeral_lacks text at c.args.minus start c.digits_len-len.result c.requires.within
+    c.requires.head starts run c.if-len-eq0.true
     (start_fits text at c.args.minus start c.requires.within c.requires.head starts))
 
 pub returns-in-Some-clause-bound : goal.returns-in-Some-clause-bound
@@ -25,8 +26,10 @@ returns-in-Some-clause-bound c =
     let run = rw (rest_is text start) at (c.digits_len-len.ensures) in
     let digits = slice_is text start c.digits_len-len.result in
     let said = rw digits at (c.in-Some.ensures) in
-    numeral_reads text at c.args.minus start c.digits_len-len.result c.in-Some.number c.requires.within c.requires.head starts run (omega arith)
-    (subst IsWhole (sym said.1) said.0) said.1 (start_fits text at c.args.minus start c.requires.within c.requires.head starts)
+    numeral_reads text at c.args.minus start c.digits_len-len.result c.in-Some.number c.requires.within
+    c.requires.head starts run (omega arith)
+    (subst IsWhole (sym said.1) said.0) said.1
+    (start_fits text at c.args.minus start c.requires.within c.requires.head starts)
 
 pub returns-in-None-clause-place : goal.returns-in-None-clause-place
 returns-in-None-clause-place c place is =
@@ -37,5 +40,6 @@ returns-in-None-clause-place c place is =
     let run = rw (rest_is text start) at (c.digits_len-len.ensures) in
     let digits = slice_is text start c.digits_len-len.result in
     let same : at ≡ place = cc in
-    rw (sym same) (numeral_past text at c.args.minus start c.digits_len-len.result c.requires.within c.requires.head starts run (omega arith)
+    rw (sym same) (numeral_past text at c.args.minus start c.digits_len-len.result c.requires.within
+    c.requires.head starts run (omega arith)
     (rw digits at (c.in-None.ensures)))

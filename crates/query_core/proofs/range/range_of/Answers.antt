@@ -55,7 +55,8 @@ returns-in_err-high-clause-place c place is =
     let s3 = low_read text c.white_end-start.result c.in_ok-low.low_end c.in_ok-low.low s2 c.in_ok-low.ensures.bound in
     let s4 = gap_read text c.in_ok-low.low_end c.in_ok-to.to s3 c.in_ok-to.ensures.end.0 c.in_ok-to.ensures.end.1 in
     let s5 = to_read text c.in_ok-to.to c.in_ok-gap.gap s4 c.in_ok-gap.ensures.end in
-    let s6 = later_gap_read text c.in_ok-gap.gap c.in_ok-second.second s5 c.in_ok-second.ensures.end.0 c.in_ok-second.ensures.end.1 in
+    let s6 = later_gap_read text c.in_ok-gap.gap c.in_ok-second.second s5 c.in_ok-second.ensures.end.0
+    c.in_ok-second.ensures.end.1 in
     let fault = c.in_err-high.field-0.0 in
     let failed : c.from_residual-in_err-high.result ≡ Err fault = grind arith in
     let same = err_same c.from_residual-in_err-high.result fault (At place) failed is in
@@ -68,8 +69,10 @@ returns-in_err-end-clause-place c place is =
     let s3 = low_read text c.white_end-start.result c.in_ok-low.low_end c.in_ok-low.low s2 c.in_ok-low.ensures.bound in
     let s4 = gap_read text c.in_ok-low.low_end c.in_ok-to.to s3 c.in_ok-to.ensures.end.0 c.in_ok-to.ensures.end.1 in
     let s5 = to_read text c.in_ok-to.to c.in_ok-gap.gap s4 c.in_ok-gap.ensures.end in
-    let s6 = later_gap_read text c.in_ok-gap.gap c.in_ok-second.second s5 c.in_ok-second.ensures.end.0 c.in_ok-second.ensures.end.1 in
-    let s7 = high_read text c.in_ok-second.second c.in_ok-high.high_end c.in_ok-high.high s6 c.in_ok-high.ensures.bound in
+    let s6 = later_gap_read text c.in_ok-gap.gap c.in_ok-second.second s5 c.in_ok-second.ensures.end.0
+    c.in_ok-second.ensures.end.1 in
+    let s7 = high_read text c.in_ok-second.second c.in_ok-high.high_end c.in_ok-high.high s6
+    c.in_ok-high.ensures.bound in
     let s8 = closing_white text c.in_ok-high.high_end c.white_end-close.result s7 c.white_end-close.ensures in
     let fault = c.in_err-end.field-0.0 in
     let failed : c.from_residual-in_err-end.result ≡ Err fault = grind arith in
@@ -83,10 +86,15 @@ returns-clause-value c =
     let s3 = low_read text c.white_end-start.result c.in_ok-low.low_end c.in_ok-low.low s2 c.in_ok-low.ensures.bound in
     let s4 = gap_read text c.in_ok-low.low_end c.in_ok-to.to s3 c.in_ok-to.ensures.end.0 c.in_ok-to.ensures.end.1 in
     let s5 = to_read text c.in_ok-to.to c.in_ok-gap.gap s4 c.in_ok-gap.ensures.end in
-    let s6 = later_gap_read text c.in_ok-gap.gap c.in_ok-second.second s5 c.in_ok-second.ensures.end.0 c.in_ok-second.ensures.end.1 in
-    let s7 = high_read text c.in_ok-second.second c.in_ok-high.high_end c.in_ok-high.high s6 c.in_ok-high.ensures.bound in
+    let s6 = later_gap_read text c.in_ok-gap.gap c.in_ok-second.second s5 c.in_ok-second.ensures.end.0
+    c.in_ok-second.ensures.end.1 in
+    let s7 = high_read text c.in_ok-second.second c.in_ok-high.high_end c.in_ok-high.high s6
+    c.in_ok-high.ensures.bound in
     let s8 = closing_white text c.in_ok-high.high_end c.white_end-close.result s7 c.white_end-close.ensures in
     let s9 = close_read text c.white_end-close.result c.in_ok-end.end s8 c.in_ok-end.ensures.end in
-    range_value text c.white_end-start.result c.in_ok-low.low_end c.in_ok-to.to c.in_ok-gap.gap c.in_ok-second.second c.in_ok-high.high_end c.white_end-close.result c.in_ok-end.end
-    c.in_ok-low.low c.in_ok-high.high c.requires c.white_end-start.ensures c.in_ok-low.ensures.bound c.in_ok-to.ensures.end.0 c.in_ok-to.ensures.end.1 c.in_ok-gap.ensures.end
-    c.in_ok-second.ensures.end.0 c.in_ok-second.ensures.end.1 c.in_ok-high.ensures.bound c.white_end-close.ensures c.in_ok-end.ensures.end s9
+    range_value text c.white_end-start.result c.in_ok-low.low_end c.in_ok-to.to c.in_ok-gap.gap c.in_ok-second.second
+    c.in_ok-high.high_end c.white_end-close.result c.in_ok-end.end
+    c.in_ok-low.low c.in_ok-high.high c.requires c.white_end-start.ensures c.in_ok-low.ensures.bound
+    c.in_ok-to.ensures.end.0 c.in_ok-to.ensures.end.1 c.in_ok-gap.ensures.end
+    c.in_ok-second.ensures.end.0 c.in_ok-second.ensures.end.1 c.in_ok-high.ensures.bound c.white_end-close.ensures
+    c.in_ok-end.ensures.end s9

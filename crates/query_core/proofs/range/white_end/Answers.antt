@@ -8,4 +8,5 @@ returns c =
     let text = c.args.bytes.now in
     let at = c.args.at in
     let body = rest_is text at in
-    white_end_is text at c.white_len.result (omega (arith, c.white_len.ensures.within, ap length body)) c.requires (rw body at (c.white_len.ensures.rest))
+    white_end_is text at c.white_len.result (omega (arith, c.white_len.ensures.within, ap length body)) c.requires
+    (rw body at (c.white_len.ensures.rest))

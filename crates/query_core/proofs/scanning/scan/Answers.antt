@@ -10,7 +10,8 @@ loop-within-preserved-then-byte-eq92 c =
     let l = c.loop-within in
     let text = c.args.bytes.now in
     let on : goes_on c.args.within l.taking (drop l.len text) ≡ true =
-    ap (goes_on c.args.within l.taking) (sym (rest_is text l.len)) ∙ (sym c.goes_on.ensures ∙ c.loop-within-test.true) in
+    ap (goes_on c.args.within l.taking) (sym (rest_is text l.len))
+    ∙ (sym c.goes_on.ensures ∙ c.loop-within-test.true) in
     let next = going c.args.within l.taking text l.len (drop l.len text) refl on in
     let flag : l.taking ≡ false = grind arith in
     scan_backslash c.args.within text l.len l.text.items l.taking flag l.invariant next.0 c.if-byte-eq92.true
@@ -20,11 +21,14 @@ loop-within-preserved c =
     let l = c.loop-within in
     let text = c.args.bytes.now in
     let on : goes_on c.args.within l.taking (drop l.len text) ≡ true =
-    ap (goes_on c.args.within l.taking) (sym (rest_is text l.len)) ∙ (sym c.goes_on.ensures ∙ c.loop-within-test.true) in
+    ap (goes_on c.args.within l.taking) (sym (rest_is text l.len))
+    ∙ (sym c.goes_on.ensures ∙ c.loop-within-test.true) in
     let next = going c.args.within l.taking text l.len (drop l.len text) refl on in
     rw c.in_ok-push.ensures.items (elim c.else-not-taking.branch [
-      | else-not-taking-via-then-not-taking+else-byte-eq92 w ↦ scan_byte c.args.within text l.len l.text.items l.taking l.invariant next.0 (plain_going _ _ _ next.1 w.if-byte-eq92.false)
-      | else-not-taking-via-else-not-taking w ↦ scan_byte c.args.within text l.len l.text.items l.taking l.invariant next.0 (inl (grind arith))
+      | else-not-taking-via-then-not-taking+else-byte-eq92 w ↦ scan_byte c.args.within
+          text l.len l.text.items l.taking l.invariant next.0 (plain_going _ _ _ next.1 w.if-byte-eq92.false)
+      | else-not-taking-via-else-not-taking w ↦ scan_byte c.args.within
+          text l.len l.text.items l.taking l.invariant next.0 (inl (grind arith))
     ])
 
 pub str_of-requires : goal.str_of-requires
@@ -32,15 +36,18 @@ str_of-requires c =
     let l = c.loop-within in
     let text = c.args.bytes.now in
     let off : goes_on c.args.within l.taking (drop l.len text) ≡ false =
-    ap (goes_on c.args.within l.taking) (sym (rest_is text l.len)) ∙ (sym c.goes_on.ensures ∙ c.loop-within-test.false) in
-    scan_text c.args.within l.text.items (drop l.len text) (stopped c.args.within l.taking (drop l.len text) off).0 l.invariant.utf8
+    ap (goes_on c.args.within l.taking) (sym (rest_is text l.len))
+    ∙ (sym c.goes_on.ensures ∙ c.loop-within-test.false) in
+    scan_text c.args.within l.text.items (drop l.len text)
+    (stopped c.args.within l.taking (drop l.len text) off).0 l.invariant.utf8
 
 pub returns : goal.returns
 returns c =
     let l = c.loop-within in
     let text = c.args.bytes.now in
     let off : goes_on c.args.within l.taking (drop l.len text) ≡ false =
-    ap (goes_on c.args.within l.taking) (sym (rest_is text l.len)) ∙ (sym c.goes_on.ensures ∙ c.loop-within-test.false) in
+    ap (goes_on c.args.within l.taking) (sym (rest_is text l.len))
+    ∙ (sym c.goes_on.ensures ∙ c.loop-within-test.false) in
     let end = stopped c.args.within l.taking (drop l.len text) off in
     record {
       fits = l.invariant.fits;

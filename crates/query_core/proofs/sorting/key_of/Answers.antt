@@ -13,16 +13,20 @@ returns-in_default-clause-refused c is key part =
     let text = c.args.part.now in
     let slice = take (length text - c.white_len.result) (drop c.white_len.result text) in
     let body : slice ≡ past_white text = rest_is text c.white_len.result ∙ c.white_len.ensures.rest in
-    let n : c.untaken-len.result ≡ untaken White (past_white text) = c.untaken-len.ensures.value ∙ ap (untaken White) body in
-    let after = rest_is slice c.untaken-len.result ∙ (ap (drop c.untaken-len.result) body ∙ ap (λ m. drop m (past_white text)) n) in
-    let said = sym c.in_default.is ∙ (c.direction_of.ensures ∙ (ap direction_in after ∙ (part_known text key part).1)) in cc
+    let n : c.untaken-len.result ≡ untaken White (past_white text) = c.untaken-len.ensures.value
+    ∙ ap (untaken White) body in
+    let after = rest_is slice c.untaken-len.result
+    ∙ (ap (drop c.untaken-len.result) body ∙ ap (λ m. drop m (past_white text)) n) in
+    let said = sym c.in_default.is ∙
+    (c.direction_of.ensures ∙ (ap direction_in after ∙ (part_known text key part).1)) in cc
 
 pub field_in-requires : goal.field_in-requires
 field_in-requires c =
     let text = c.args.part.now in
     let slice = take (length text - c.white_len.result) (drop c.white_len.result text) in
     let body : slice ≡ past_white text = rest_is text c.white_len.result ∙ c.white_len.ensures.rest in
-    let n : c.untaken-len.result ≡ untaken White (past_white text) = c.untaken-len.ensures.value ∙ ap (untaken White) body in
+    let n : c.untaken-len.result ≡ untaken White (past_white text) = c.untaken-len.ensures.value
+    ∙ ap (untaken White) body in
     rw (body, n) (utf8_before_stop White (past_white text) (utf8_past_white text c.requires))
 
 pub returns-in-Err-clause-refused : goal.returns-in-Err-clause-refused
@@ -30,7 +34,8 @@ returns-in-Err-clause-refused c is key part =
     let text = c.args.part.now in
     let slice = take (length text - c.white_len.result) (drop c.white_len.result text) in
     let body : slice ≡ past_white text = rest_is text c.white_len.result ∙ c.white_len.ensures.rest in
-    let n : c.untaken-len.result ≡ untaken White (past_white text) = c.untaken-len.ensures.value ∙ ap (untaken White) body in
+    let n : c.untaken-len.result ≡ untaken White (past_white text) = c.untaken-len.ensures.value
+    ∙ ap (untaken White) body in
     let same : c.in-Err.fault ≡ Refused = cc in
     c.in-Err.ensures.refused (ap Err same) (key.field, rw (body, n) (part_known text key part).0)
 
@@ -39,8 +44,10 @@ returns-in-Ok-clause-key c =
     let text = c.args.part.now in
     let slice = take (length text - c.white_len.result) (drop c.white_len.result text) in
     let body : slice ≡ past_white text = rest_is text c.white_len.result ∙ c.white_len.ensures.rest in
-    let n : c.untaken-len.result ≡ untaken White (past_white text) = c.untaken-len.ensures.value ∙ ap (untaken White) body in
-    let after = rest_is slice c.untaken-len.result ∙ (ap (drop c.untaken-len.result) body ∙ ap (λ m. drop m (past_white text)) n) in
+    let n : c.untaken-len.result ≡ untaken White (past_white text) = c.untaken-len.ensures.value
+    ∙ ap (untaken White) body in
+    let after = rest_is slice c.untaken-len.result
+    ∙ (ap (drop c.untaken-len.result) body ∙ ap (λ m. drop m (past_white text)) n) in
     let white = split_white text in
     let m = untaken White (past_white text) in (
       white.0,

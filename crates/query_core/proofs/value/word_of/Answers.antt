@@ -15,7 +15,8 @@ pub returns-then-is_starred-clause-value : goal.returns-then-is_starred-clause-v
 returns-then-is_starred-clause-value c =
     let text = c.args.rest.now in
     let s = c.in_ok-scanned.scanned in
-    let star : starred (drop s.len text) ≡ true = ap starred (sym (rest_is text s.len)) ∙ (sym c.is_starred.ensures ∙ c.if-is_starred.true) in
+    let star : starred (drop s.len text) ≡ true = ap starred (sym (rest_is text s.len))
+    ∙ (sym c.is_starred.ensures ∙ c.if-is_starred.true) in
     let there = star_there text s.len star in
     prefix_reads text s c.in_ok-scanned.ensures (grind arith) c.requires.plain there.0 there.1
 
@@ -23,13 +24,17 @@ pub returns-then-len-eq0-clause-place : goal.returns-then-len-eq0-clause-place
 returns-then-len-eq0-clause-place c place is =
     let text = c.args.rest.now in
     let s = c.in_ok-scanned.scanned in
-    let star : starred (drop s.len text) ≡ false = ap starred (sym (rest_is text s.len)) ∙ (sym c.is_starred.ensures ∙ c.if-is_starred.false) in
+    let star : starred (drop s.len text) ≡ false = ap starred (sym (rest_is text s.len))
+    ∙ (sym c.is_starred.ensures ∙ c.if-is_starred.false) in
     let same : 0 ≡ place = cc in
-    subst (BreaksValue text) same (word_lacks text s c.in_ok-scanned.ensures c.if-len-eq0.true c.requires.plain (no_star_there text s.len star))
+    subst (BreaksValue text) same (word_lacks text s c.in_ok-scanned.ensures c.if-len-eq0.true c.requires.plain
+    (no_star_there text s.len star))
 
 pub returns-clause-value : goal.returns-clause-value
 returns-clause-value c =
     let text = c.args.rest.now in
     let s = c.in_ok-scanned.scanned in
-    let star : starred (drop s.len text) ≡ false = ap starred (sym (rest_is text s.len)) ∙ (sym c.is_starred.ensures ∙ c.if-is_starred.false) in
-    word_reads text s c.in_ok-scanned.ensures (grind arith) c.requires.plain (omega arith) (no_star_there text s.len star)
+    let star : starred (drop s.len text) ≡ false = ap starred (sym (rest_is text s.len))
+    ∙ (sym c.is_starred.ensures ∙ c.if-is_starred.false) in
+    word_reads text s c.in_ok-scanned.ensures (grind arith) c.requires.plain
+    (omega arith) (no_star_there text s.len star)
