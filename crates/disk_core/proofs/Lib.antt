@@ -3,3 +3,4 @@ pub mod RunLaws
 mod PastLemmas
 mod Lists
 mod TornLemmas
+mod CountLemmas

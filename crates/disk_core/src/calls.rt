@@ -1,7 +1,8 @@
 //! What a disk in memory writes down: each call, and whether it was done.
-ghost use Rattle.std.specs.Prelude.{◌≡◌, ◌↔◌, ◌+◌, ◌≤◌, true, false, IsTrue, IfOk, OnErr, ◌∷◌, ◌++◌, []};
+ghost use Rattle.std.specs.Prelude.{◌≡◌, ◌↔◌, ◌+◌, ◌^◌, ◌<◌, ◌≤◌, true, false, IsTrue, IfOk, OnErr, ◌∷◌, ◌++◌, [], Contains};
 ghost use Rattle.base_core.specs.Causes.{Rose};
-ghost use Rattle.disk_core.specs.Past.{count_of, Lists};
+ghost use Rattle.disk_core.specs.Counts.{kept_of, one_more, HasCounts};
+ghost use Rattle.disk_core.specs.Past.{Lists};
 
 use base_core::{Bytes, counted};
 use std::alloc::{AllocError, Global};
@@ -41,6 +42,15 @@ pub struct Noted {
     pub bytes: Bytes,
 }
 
+// How many calls of each kind there were.
+#[derive(Drop)]
+pub(crate) struct Counts {
+    lengths: u64,
+    reads: u64,
+    writes: u64,
+    syncs: u64,
+}
+
 // The calls of a disk so far, and those that are to fail.
 #[derive(Drop)]
 pub(crate) struct Log {
@@ -48,9 +58,58 @@ pub(crate) struct Log {
     pub(crate) calls: Vec<Noted>,
     pub(crate) failing: Vec<Failing>,
     pub(crate) failed: u64,
+    counts: Counts,
+    ghost counted: { HasCounts counts calls.items },
+}
+
+impl Counts {
+    // How many there were of this kind.
+    fn of(&self, call: DiskCall) -> u64
+        ensures { result ≡ kept_of call self.now }
+    {
+        match call {
+            DiskCall::Length => self.lengths,
+            DiskCall::ReadAt => self.reads,
+            DiskCall::WriteAt => self.writes,
+            DiskCall::Sync => self.syncs,
+        }
+    }
+
+    // One more of this kind.
+    fn add(&mut self, call: DiskCall)
+        requires { kept_of call self.old + 1 < 2 ^ 64 }
+        ensures { self.new ≡ one_more call self.old }
+    {
+        match call {
+            DiskCall::Length => self.lengths += 1,
+            DiskCall::ReadAt => self.reads += 1,
+            DiskCall::WriteAt => self.writes += 1,
+            DiskCall::Sync => self.syncs += 1,
+        }
+    }
 }
 
 impl Log {
+    // No call so far.
+    pub(crate) fn new(alloc: Global, failing: Vec<Failing>) -> Log
+        ensures calls { result.calls.items ≡ [] }
+        ensures failing { result.failing ≡ failing }
+        ensures failed { result.failed ≡ 0 }
+    {
+        Log {
+            alloc,
+            calls: Vec::new(alloc),
+            failing,
+            failed: 0,
+            counts: Counts {
+                lengths: 0,
+                reads: 0,
+                writes: 0,
+                syncs: 0,
+            },
+        }
+    }
+
     // Writes a call down, and returns whether it is to be done. One that isn't is counted.
     pub(crate) fn enter(
         &mut self,
@@ -69,7 +128,7 @@ impl Log {
         ensures err_count { OnErr result (self.new.failed ≡ self.old.failed) }
         ensures count { self.old.failed ≤ self.new.failed }
     {
-        let done = !is_listed(&self.failing, &self.calls, call);
+        let done = !self.is_listed(call);
         let bytes = Bytes::of(self.alloc, bytes)?;
         self.calls.push(Noted {
             call,
@@ -77,24 +136,24 @@ impl Log {
             place,
             bytes,
         })?;
+        self.counts.add(call);
         if !done {
             self.failed = counted(self.failed);
         }
         Ok(done)
     }
+
+    // Whether the next call of this kind is on the list.
+    fn is_listed(&self, call: DiskCall) -> bool
+        ensures { IsTrue result ↔ Lists self.now.failing.items self.now.calls.items call }
+    {
+        names(&self.failing, call, self.counts.of(call) + 1)
+    }
 }
 
-// Whether the next call of this kind is on the list.
-fn is_listed(failing: &[Failing], calls: &[Noted], call: DiskCall) -> bool
-    ensures { IsTrue result ↔ Lists failing.now calls.now call }
+// Whether the list names this call of its kind.
+fn names(failing: &[Failing], call: DiskCall, nth: u64) -> bool
+    ensures { IsTrue result ↔ Contains failing.now (record { call = call; nth = nth }) }
 {
-    let nth = count(calls, call) + 1;
     failing.contains(&Failing { call, nth })
-}
-
-// How many calls of this kind there are.
-fn count(calls: &[Noted], call: DiskCall) -> u64
-    ensures { result ≡ count_of call calls.now }
-{
-    calls.iter().filter(|noted| noted.call == call).count() as u64
 }

@@ -50,12 +50,7 @@ impl MemoryDisk {
         Ok(MemoryDisk {
             start,
             file,
-            log: Log {
-                alloc,
-                calls: Vec::new(alloc),
-                failing,
-                failed: 0,
-            },
+            log: Log::new(alloc, failing),
             starved: 0,
         })
     }

@@ -22,7 +22,8 @@ Yields (Err Memory) y = ⊤
 -- the counter of a put that this number stands for
 abbrev pub IsCounted : ℕ → Result (Option ℕ) RecordFault → Type 0
 IsCounted n (Ok counter) = IsCounterIfThere counter × (unwrap_or counter 0 ≡ n)
-IsCounted n (Err fault) = (fault ≡ NotARecord) × ((counter : Option ℕ) → IsCounterIfThere counter → unwrap_or counter 0 ≡ n → ⊥)
+IsCounted n (Err fault) = (fault ≡ NotARecord)
+    × ((counter : Option ℕ) → IsCounterIfThere counter → unwrap_or counter 0 ≡ n → ⊥)
 
 -- the value of a text, which nests at most 67 deep
 abbrev pub IsValueOf : List ℕ → Result Json RecordFault → Type 0

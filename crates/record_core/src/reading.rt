@@ -27,8 +27,8 @@ const DEPTH: u8 = 67;
 /// The change whose body these bytes are. `NotARecord` comes exactly when they are the body of no storable change, and
 /// `Memory` only when an allocation was refused.
 ///
-/// It takes time linear in the bytes but for the elements' identifiers, which are compared with each other. The bytes of
-/// each element are copied at once. The text is read as a JSON value, whose strings and attributes are moved into the
+/// It takes time linear in the bytes but for the elements' identifiers, which are compared with each other. The bytes
+/// of each element are copied at once. The text is read as a JSON value, whose strings and attributes are moved into the
 /// object but for those of elements, which are copied; and the object's own text is written beside it, to be compared.
 pub fn change_of(alloc: Global, bytes: &[u8]) -> Result<Change, RecordFault>
     ensures { Reads Second bytes.now result }

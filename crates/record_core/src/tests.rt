@@ -36,7 +36,8 @@ fn created_first() -> &'static str {
      2f31222c2274797065223a22302e545950452f444f227d 00000000"
 }
 
-// A put of `35.TEST/f` with content and two elements: `a` of the bytes `xyz`, with a type and attributes, and `b` of none.
+// A put of `35.TEST/f` with content and two elements: `a` of the bytes `xyz`, with a type and attributes, and `b` with
+// no bytes.
 fn with_elements() -> &'static str {
     "01 0000000000000000 0000010d \
      7b2261747472696275746573223a7b22636f6e74656e74223a7b226e223a317d2c226d65746164617461223a7b226372 \

@@ -14,8 +14,8 @@ use base_core::Bytes;
 use dobj_model::{Element, Elements, Id, Object, append_text, text_length};
 use std::alloc::{AllocError, Global};
 
-/// How many bytes the body of a change has. It takes no memory, and time linear in the text of the object and the number
-/// of its elements.
+/// How many bytes the body of a change has, fewer than 2^45. It takes no memory, and time linear in the text of the
+/// object and the number of its elements.
 pub fn body_length(change: &Change) -> u64
     ensures length { result ≡ length (body change.now) }
     ensures small { result < 2 ^ 45 }
