@@ -4,3 +4,4 @@ pub mod Fields
 pub mod Reply
 pub mod Fixed
 pub mod Pairs
+pub mod Appended

@@ -80,6 +80,10 @@ response_segments p = segment kinds.Json (text_of (table (entries_from (first_en
 abbrev pub reply_text : Replied → List ℕ
 reply_text p = canonical (response_segments p)
 
+-- a reply that is done, with an output
+abbrev pub done : Option (List ℕ) → Content → Replied
+done request_id output = record { request_id = request_id; status = Done; attributes = []; output = output }
+
 -- a refusal: its status and its one attribute
 abbrev pub refusal : Option (List ℕ) → Status → List ℕ → Replied
 refusal request_id status message = record {

@@ -4,6 +4,7 @@
 //! `request_of` first. `response_message` writes what the server replies.
 #![tactic(auto)]
 
+mod appending;
 mod reading;
 mod request;
 mod response;
@@ -12,6 +13,10 @@ mod tests;
 mod texts;
 mod writing;
 
+pub use appending::{
+    append_refusal, append_string, begin_parts, begin_value, end_parts, end_value,
+    parts_make_a_reply,
+};
 pub use reading::request_of;
 pub use request::{Body, FieldName, Request, RequestFault, Why};
 pub use response::{Response, Status};

@@ -1,7 +1,7 @@
 //! First segments with the request or the fault that each gives, and responses with their bytes.
 use super::*;
 use doip_json::{Bytes, Json, JsonMap, Str, TextFault, read, text};
-use doip_segment::{Kind, Message};
+use doip_segment::{Kind, Message, append_segment};
 use std::alloc::{AllocError, Global};
 use std::test::Fail;
 
@@ -479,5 +479,23 @@ fn each_fixed_text_is_what_its_refusal_is_written_as(rt: HostRuntime) -> Result<
         MEMORY_TEXT,
         b"{\"attributes\":{\"message\":\"want of memory\"},\"status\":\"0.DOIP/Status.500\"}\n#\n#\n".as_slice()
     );
+    Ok(())
+}
+
+#[test]
+fn replies_are_appended_one_after_another(rt: HostRuntime) -> Result<(), Fail> {
+    let alloc = rt.alloc();
+    let mut out = Vec::new(alloc);
+    begin_value(&mut out)?;
+    out.extend_from_slice(b"[]")?;
+    end_value(alloc, Some("a\""), &mut out)?;
+    begin_parts(alloc, None, &mut out)?;
+    append_segment(&mut out, Kind::Bytes, b"b")?;
+    end_parts(&mut out)?;
+    append_refusal(alloc, Some("c"), &Status::Invalid, "m", &mut out)?;
+    let want = "{\"output\":[],\"requestId\":\"a\\\"\",\"status\":\"0.DOIP/Status.001\"}\n#\n#\n\
+                {\"status\":\"0.DOIP/Status.001\"}\n#\n@\n1\nb\n#\n#\n\
+                {\"attributes\":{\"message\":\"m\"},\"requestId\":\"c\",\"status\":\"0.DOIP/Status.101\"}\n#\n#\n";
+    assert_eq!(rt; out.as_slice(), want.as_bytes());
     Ok(())
 }

@@ -23,30 +23,30 @@ pub fn is_plain(bytes: &[u8]) -> bool
 }
 
 /// Writes a chunk with these bytes.
-fn put_chunk(alloc: Global, out: &mut Vec<u8>, bytes: &[u8]) -> Result<(), AllocError>
+fn put_chunk(out: &mut Vec<u8>, bytes: &[u8]) -> Result<(), AllocError>
     ensures { OnOk result (out.new.items
         ≡ out.old.items ++ (decimal (length bytes.now) ++ line_feed ∷ [] ++ bytes.now ++ line_feed ∷ [])) }
 {
-    let count = bytes.len();
-    let digits = format!(in alloc; "{count}")?;
-    out.extend_from_slice(digits.as_bytes())?;
+    let mut digits = itoa::Buffer::new();
+    out.extend_from_slice(digits.format(bytes.len() as u64).as_bytes())?;
     out.extend_from_slice(b"\n")?;
     out.extend_from_slice(bytes)?;
     out.extend_from_slice(b"\n")
 }
 
 /// Writes one chunk with all of the bytes, or none if there are none.
-fn put_chunks(alloc: Global, out: &mut Vec<u8>, bytes: &[u8]) -> Result<(), AllocError>
+fn put_chunks(out: &mut Vec<u8>, bytes: &[u8]) -> Result<(), AllocError>
     ensures { OnOk result (out.new.items ≡ out.old.items ++ chunks_text bytes.now) }
 {
     match bytes {
         [] => Ok(()),
-        _ => put_chunk(alloc, out, bytes),
+        _ => put_chunk(out, bytes),
     }
 }
 
-/// Writes a segment.
-fn put_segment(alloc: Global, out: &mut Vec<u8>, kind: Kind, bytes: &[u8]) -> Result<(), AllocError>
+/// Adds the canonical text of a segment at the end of the buffer. A caller that writes several takes their room at once
+/// before. Out of memory the buffer may end with a part of the text.
+pub fn append_segment(out: &mut Vec<u8>, kind: Kind, bytes: &[u8]) -> Result<(), AllocError>
     ensures { OnOk result (out.new.items ≡ out.old.items ++ content_text kind bytes.now) }
 {
     match kind {
@@ -56,7 +56,7 @@ fn put_segment(alloc: Global, out: &mut Vec<u8>, kind: Kind, bytes: &[u8]) -> Re
         }
         Kind::Bytes => {
             out.extend_from_slice(b"@\n")?;
-            put_chunks(alloc, out, bytes)?;
+            put_chunks(out, bytes)?;
             out.extend_from_slice(b"#\n")
         }
     }
@@ -71,7 +71,7 @@ pub fn encode(alloc: Global, message: &Message) -> Result<Bytes, AllocError>
 {
     let mut out = Vec::new(alloc);
     for i in 0..message.count() {
-        put_segment(alloc, &mut out, message.kind(i), message.bytes(i))?;
+        append_segment(&mut out, message.kind(i), message.bytes(i))?;
     }
     out.extend_from_slice(b"#\n")?;
     Ok(Bytes::from(out))

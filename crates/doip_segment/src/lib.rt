@@ -25,7 +25,7 @@ mod outcome;
 mod phase;
 
 pub use decoder::Decoder;
-pub use encoder::{encode, is_plain};
+pub use encoder::{append_segment, encode, is_plain};
 pub use kind::Kind;
 pub use laws::{
     canonical_is_a_spelling, each_stream_breaks_once, each_stream_has_one_framing,

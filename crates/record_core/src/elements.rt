@@ -36,7 +36,7 @@ pub(crate) fn elements_of(
     ensures found { (es : List Element) → AreElements es → AreListed items.now payloads.now es → Yields result es }
 {
     let made = listed_with_bytes(alloc, items, payloads)?;
-    match Elements::of(alloc, made)? {
+    match Elements::of(made) {
         Some(elements) => Ok(elements),
         None => Err(RecordFault::NotARecord),
     }

@@ -15,7 +15,7 @@ use Rattle.repo_step.specs.declared.refusal.Refusal.TheVariants.{Invalid, Authen
 use Rattle.repo_step.specs.Setting.{Setting, State}
 use Rattle.repo_step.specs.Chain.{unless, found, read}
 use Rattle.repo_step.specs.Refusals.{refused}
-use Rattle.repo_step.specs.Step.{is_text, operation_in, operate, done, output_of, plan_with, plan_of}
+use Rattle.repo_step.specs.Step.{is_text, operation_in, operate, output_of, plan_with, plan_of}
 use Rattle.repo_step.specs.Laws.{IsNoFixedText}
 
 -- one letter of a reply's text

@@ -2,12 +2,11 @@
 use Rattle.std.specs.Prelude.{ℕ, List, [], Option, Some, None, Result, Ok, Err, Bool, codes, nat_eq, is_none, if◌then◌else◌}
 use Rattle.std.specs.Cmp.Lexicographic.{pointwise}
 use Rattle.doip_segment.specs.Segments.{Segment}
-use Rattle.doip_message.specs.declared.response.Status.TheVariants.{Done}
 use Rattle.doip_message.specs.declared.request.Body.{Body}
 use Rattle.doip_message.specs.declared.request.RequestFault.{RequestFault}
 use Rattle.doip_message.specs.Asked.{Content, one_value, Asked, content_of}
 use Rattle.doip_message.specs.Reading.{request}
-use Rattle.doip_message.specs.Reply.{Replied}
+use Rattle.doip_message.specs.Reply.{Replied, done}
 use Rattle.repo_step.specs.declared.brought.Brought.{Brought}
 use Rattle.repo_step.specs.declared.operation.Operation.{Operation}
 use Rattle.repo_step.specs.declared.operation.Operation.TheVariants.{Hello}
@@ -70,10 +69,6 @@ effect_of setting brought state meant =
 abbrev pub request_id_of : Result Asked RequestFault → Option (List ℕ)
 request_id_of (Ok asked) = asked.request_id
 request_id_of (Err fault) = fault.request_id
-
--- the reply with an operation's output
-abbrev pub done : Option (List ℕ) → Content → Replied
-done request_id output = record { request_id = request_id; status = Done; attributes = []; output = output }
 
 -- An operation that is accepted replies with its output; a refusal changes nothing.
 abbrev pub plan_with : Option (List ℕ) → State → Result Effect Refusal → Plan

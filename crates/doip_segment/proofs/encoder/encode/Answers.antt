@@ -12,7 +12,7 @@ loop-i-preserved c =
     let i = c.loop-i.i in
     let here : i < length segments = omega (arith, c.loop-i-test.true, c.count-i-end.ensures) in
     let next = take_more segments i (segment kinds.Json []) here in
-    c.in_ok-put_segment.ensures
+    c.in_ok-append_segment.ensures
     ∙ ap (λ out. out ++ content_text c.kind.result c.bytes.result.now) c.loop-i.invariant
     ∙ ap (λ k. flat_map segment_text (take i segments) ++ content_text k c.bytes.result.now) c.kind.ensures
     ∙ ap (λ bytes. flat_map segment_text (take i segments) ++ content_text (segment_of segments i).kind bytes) c.bytes.ensures

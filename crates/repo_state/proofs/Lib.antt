@@ -1,0 +1,5 @@
+pub mod MapLemmas
+pub mod ListLemmas
+pub mod LeastLemmas
+pub mod Named
+pub mod Soundness

@@ -1,0 +1,9 @@
+pub mod Least
+pub mod Contents
+pub mod Groups
+pub mod Sound
+pub mod Types
+pub mod Held
+pub mod Rows
+pub mod Codes
+pub mod Replayed
