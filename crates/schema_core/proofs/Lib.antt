@@ -1,3 +1,5 @@
+pub mod HereLemmas
+pub mod FirstFound
 pub mod OwnLemmas
 pub mod PropertyLemmas
 pub mod FirstLemmas

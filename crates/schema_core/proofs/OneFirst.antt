@@ -62,7 +62,7 @@ word_back word.AdditionalProperties = refl
 word_back word.Properties = refl
 word_back word.Items = refl
 
-same_word : (w x : SchemaWord) → turn_of w ≡ turn_of x → w ≡ x
+pub same_word : (w x : SchemaWord) → turn_of w ≡ turn_of x → w ≡ x
 same_word w x same = sym (word_back w) ∙ (ap (λ n. get_or used n word.Kind) same ∙ word_back x)
 
 none_after : (q : Path) → SamePlaces [] q → [] ≡ q

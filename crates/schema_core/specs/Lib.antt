@@ -2,6 +2,7 @@ pub mod Rules
 pub mod Names
 pub mod Failing
 pub mod First
+pub mod FirstFailure
 pub mod Shapes
 pub mod Reading
 pub mod References

@@ -33,7 +33,7 @@ mod words;
 pub use collecting::{Reference, References, references};
 pub use fault::SchemaFault;
 pub use kind::Kind;
-pub use law::first_failures_are_one;
+pub use law::{first_failures_are_found, first_failures_are_one};
 pub use pointer::failure_pointer;
 pub use reading::schema_of;
 pub use schema::Schema;

@@ -1,0 +1,188 @@
+//! Whom each word grants what, at objects and at types.
+
+use crate::{Caller, Groups, Right, TypeLists, may, may_create};
+use base_core::Items;
+use dobj_model::{Elements, Id, Metadata, Object, ObjectValue, TypeName};
+use doip_json::{JsonMap, Str, read};
+use std::alloc::{AllocError, Global};
+use std::test::Fail;
+
+// One group, `g`, with one user, `alice`.
+#[derive(Clone, Copy)]
+struct OneGroup;
+
+impl Groups for OneGroup {
+    ghost use Rattle.acl_core.specs.Example.{is_alice_in_g};
+
+    ghost is_in = { λ _. is_alice_in_g };
+
+    fn has(&self, group: &str, user: &str) -> bool {
+        group == "g" && user == "alice"
+    }
+}
+
+// The callers, each with the letter that stands for it below: `-` is anonymous, `r` the admin.
+const CALLERS: [(&str, &str); 6] = [
+    ("-", ""),
+    ("a", "alice"),
+    ("b", "bob"),
+    ("c", "carol"),
+    ("p", "35.TEST/p"),
+    ("r", "admin"),
+];
+
+fn caller(alloc: Global, id: &str) -> Result<Caller, AllocError> {
+    if id.is_empty() {
+        return Ok(Caller::Anonymous);
+    }
+    Ok(Caller::Known {
+        id: Str::of(alloc, id)?,
+        admin: id == "admin",
+    })
+}
+
+// The object `35.TEST/p` that carol created, with this `acl`.
+fn object(alloc: Global, acl: &str) -> Result<Object, Fail> {
+    let mut attributes = JsonMap::empty(alloc);
+    if !acl.is_empty() {
+        attributes.put(Str::of(alloc, "acl")?, read(alloc, acl.as_bytes(), 64)?)?;
+    }
+    let value = ObjectValue {
+        id: Id::of(alloc, "35.TEST/p")?.ok_or("no identifier")?,
+        type_name: TypeName::of(alloc, "0.TYPE/DO")?.ok_or("no type")?,
+        attributes,
+        metadata: Metadata {
+            created_by: Str::of(alloc, "carol")?,
+            created_on: 1,
+            modified_by: Str::of(alloc, "carol")?,
+            modified_on: 1,
+            revision: 1,
+        },
+        elements: Elements::none(alloc),
+    };
+    match Object::of(value) {
+        Some(object) => Ok(object),
+        None => Err(Fail::from("no object")),
+    }
+}
+
+fn words(alloc: Global, word: &str) -> Result<Items<Str>, AllocError> {
+    let mut words = Items::new(alloc);
+    words.push(Str::of(alloc, word)?)?;
+    Ok(words)
+}
+
+fn lists(alloc: Global, read: &str, write: &str, create: &str) -> Result<TypeLists, AllocError> {
+    Ok(TypeLists {
+        read: words(alloc, read)?,
+        write: words(alloc, write)?,
+        create: words(alloc, create)?,
+    })
+}
+
+// The letters of those who have the right.
+fn who_may(
+    alloc: Global,
+    right: Right,
+    object: &Object,
+    lists: &TypeLists,
+) -> Result<String, AllocError> {
+    let mut letters = String::new(alloc);
+    for (letter, id) in CALLERS {
+        if may(&caller(alloc, id)?, right, object, lists, &OneGroup) {
+            letters.push_str(letter)?;
+        }
+    }
+    Ok(letters)
+}
+
+// The letters of those who may create.
+fn who_may_create(alloc: Global, lists: &TypeLists) -> Result<String, AllocError> {
+    let mut letters = String::new(alloc);
+    for (letter, id) in CALLERS {
+        if may_create(&caller(alloc, id)?, lists, &OneGroup) {
+            letters.push_str(letter)?;
+        }
+    }
+    Ok(letters)
+}
+
+// Who may read an object with this word among its readers.
+fn readers_by(alloc: Global, word: &str) -> Result<String, Fail> {
+    let acl = format!(in alloc; "{{\"readers\":[\"x\",\"{word}\"],\"writers\":[]}}")?;
+    let object = object(alloc, acl.as_str())?;
+    let lists = lists(alloc, "x", "x", "x")?;
+    Ok(who_may(alloc, Right::Read, &object, &lists)?)
+}
+
+// Who may write an object without lists, of a type with this word in its list of writers.
+fn writers_by(alloc: Global, word: &str) -> Result<String, Fail> {
+    let object = object(alloc, "")?;
+    let lists = lists(alloc, "x", word, "x")?;
+    Ok(who_may(alloc, Right::Write, &object, &lists)?)
+}
+
+// Who may create objects of a type with this word in its list.
+fn creators_by(alloc: Global, word: &str) -> Result<String, Fail> {
+    let lists = lists(alloc, "x", "x", word)?;
+    Ok(who_may_create(alloc, &lists)?)
+}
+
+#[test]
+fn each_word_grants_to_whom_it_says(rt: HostRuntime) -> Result<(), Fail> {
+    let rows = [
+        ("public", "-abcpr", "-abcpr"),
+        ("authenticated", "abcpr", "abcpr"),
+        ("creator", "cr", "r"),
+        ("self", "pr", "r"),
+        ("bob", "br", "br"),
+        ("g", "ar", "ar"),
+        ("anonymous", "r", "r"),
+        ("Public", "r", "r"),
+    ];
+    for (word, of_object, of_type) in rows {
+        assert_eq!(rt;
+            readers_by(rt.alloc(), word)?.as_str(),
+            of_object,
+            "at {word}"
+        );
+        assert_eq!(rt;
+            writers_by(rt.alloc(), word)?.as_str(),
+            of_object,
+            "at {word}"
+        );
+        assert_eq!(rt;
+            creators_by(rt.alloc(), word)?.as_str(),
+            of_type,
+            "at {word}"
+        );
+    }
+    Ok(())
+}
+
+#[test]
+fn the_lists_of_an_object_hide_those_of_its_type(rt: HostRuntime) -> Result<(), Fail> {
+    let alloc = rt.alloc();
+    let usual = lists(alloc, "public", "creator", "authenticated")?;
+    let rows = [
+        ("", "-abcpr", "cr"),
+        ("{}", "-abcpr", "cr"),
+        ("{\"readers\":[\"g\"]}", "acr", "cr"),
+        ("{\"readers\":[]}", "cr", "cr"),
+        ("{\"writers\":[\"g\"]}", "-abcpr", "ar"),
+    ];
+    for (acl, readers, writers) in rows {
+        let object = object(alloc, acl)?;
+        assert_eq!(rt;
+            who_may(alloc, Right::Read, &object, &usual)?.as_str(),
+            readers,
+            "at {acl}"
+        );
+        assert_eq!(rt;
+            who_may(alloc, Right::Write, &object, &usual)?.as_str(),
+            writers,
+            "at {acl}"
+        );
+    }
+    Ok(())
+}
