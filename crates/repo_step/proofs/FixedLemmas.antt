@@ -5,7 +5,7 @@ use Rattle.doip_message.specs.declared.request.FieldName.TheVariants as names
 use Rattle.doip_message.specs.declared.request.RequestFault.{RequestFault}
 use Rattle.doip_message.specs.declared.request.Why.TheVariants.{NoSegment, FirstIsBytes, Json, NotTable, Field, TwoInputs, Memory}
 use Rattle.doip_message.specs.Asked.{Asked}
-use Rattle.doip_message.specs.Reply.{Replied, reply_text}
+use Rattle.doip_message.specs.Reply.{Replied, reply_text, done}
 use Rattle.doip_message.specs.Fixed.{memory_reply, disk_reply, closed_reply, framing_reply}
 use Rattle.repo_step.specs.declared.brought.Brought.{Brought}
 use Rattle.repo_step.specs.declared.operation.Operation.{Operation}
