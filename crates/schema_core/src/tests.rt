@@ -6,24 +6,22 @@ use std::alloc::{AllocError, Global};
 use std::process::Abort;
 use std::test::Fail;
 
-fn json_of(alloc: Global, bytes: &[u8]) -> Json {
-    match read(alloc, bytes, 127) {
-        Ok(json) => json,
-        Err(_) => Json::Null,
-    }
+// `valid`, the first failure, or the fault of the schema.
+fn outcome(alloc: Global, schema: &[u8], value: &[u8]) -> Result<String, Fail> {
+    let schema = read(alloc, schema, 127)?;
+    let value = read(alloc, value, 127)?;
+    Ok(judged(alloc, &schema, &value)?)
 }
 
-// `valid`, the first failure, or the fault of the schema.
-fn outcome(alloc: Global, schema: &[u8], value: &[u8]) -> Result<String, AllocError> {
-    let schema = match schema_of(alloc, &json_of(alloc, schema)) {
+fn judged(alloc: Global, schema: &Json, value: &Json) -> Result<String, AllocError> {
+    let schema = match schema_of(alloc, schema) {
         Ok(schema) => schema,
         Err(SchemaFault::Word { name }) => return format!(in alloc; "word {}", name.get()),
         Err(SchemaFault::Shape { name }) => return format!(in alloc; "shape {}", name.get()),
         Err(SchemaFault::Memory) => return String::from_str(alloc, "memory"),
     };
-    let value = json_of(alloc, value);
-    let pointer = failure_pointer(alloc, &schema, &value)?;
-    match (valid(&schema, &value), pointer) {
+    let pointer = failure_pointer(alloc, &schema, value)?;
+    match (valid(&schema, value), pointer) {
         (None, None) => String::from_str(alloc, "valid"),
         (Some(word), Some(pointer)) => format!(in alloc; "{} at {}", word.word(), pointer.get()),
         _ => String::from_str(alloc, "no agreement"),
@@ -54,6 +52,8 @@ fn each_word_of_the_value_itself_passes_and_fails(rt: HostRuntime) -> Result<(),
             (b"{\"type\":[\"null\",\"string\"]}", b"\"\"", "valid"),
             (b"{\"type\":[\"null\",\"object\"]}", b"[]", "type at "),
             (b"{\"type\":\"boolean\"}", b"0", "type at "),
+            (b"{\"type\":\"array\"}", b"[]", "valid"),
+            (b"{\"type\":\"array\"}", b"{}", "type at "),
             (b"{\"enum\":[1,{\"a\":[2]}]}", b"{\"a\":[2]}", "valid"),
             (b"{\"enum\":[1,{\"a\":[2]}]}", b"{\"a\":[3]}", "enum at "),
             (b"{\"minimum\":0,\"maximum\":0}", b"0", "valid"),
@@ -203,6 +203,86 @@ fn the_first_fault_of_a_schema_is_reported(rt: HostRuntime) -> Result<(), Fail> 
     )
 }
 
+// What a schema of the word with this value makes of `null`.
+fn of_word(alloc: Global, word: &str, value: &str) -> Result<String, Fail> {
+    let schema = format!(in alloc; "{{\"{word}\":{value}}}")?;
+    outcome(alloc, schema.as_bytes(), b"null")
+}
+
+#[test]
+fn words_are_refused_or_ignored_by_their_names(rt: HostRuntime) -> Result<(), Fail> {
+    let refused = [
+        "$ref",
+        "allOf",
+        "anyOf",
+        "dependencies",
+        "exclusiveMaximum",
+        "exclusiveMinimum",
+        "maxProperties",
+        "minProperties",
+        "multipleOf",
+        "not",
+        "oneOf",
+        "pattern",
+        "patternProperties",
+        "uniqueItems",
+    ];
+    for word in refused {
+        let want = format!(in rt.alloc(); "word {word}")?;
+        assert_eq!(rt; of_word(rt.alloc(), word, "0")?.as_str(), want.as_str());
+    }
+    let ignored = [
+        "title",
+        "description",
+        "default",
+        "format",
+        "id",
+        "$schema",
+        "definitions",
+        "const",
+        "Type",
+        "",
+    ];
+    for word in ignored {
+        assert_eq!(rt;
+            of_word(rt.alloc(), word, "0")?.as_str(),
+            "valid",
+            "at {word}"
+        );
+    }
+    Ok(())
+}
+
+#[test]
+fn each_used_word_has_its_shape(rt: HostRuntime) -> Result<(), Fail> {
+    let rows = [
+        ("type", "\"text\""),
+        ("type", "[\"null\",7]"),
+        ("type", "{}"),
+        ("enum", "7"),
+        ("minimum", "\"1\""),
+        ("maximum", "null"),
+        ("minLength", "[]"),
+        ("maxLength", "-1"),
+        ("minItems", "true"),
+        ("maxItems", "-1"),
+        ("required", "\"a\""),
+        ("additionalProperties", "1"),
+        ("properties", "7"),
+        ("cordra", "{\"type\":{\"handleReference\":7}}"),
+    ];
+    for (word, value) in rows {
+        let want = format!(in rt.alloc(); "shape {word}")?;
+        assert_eq!(rt;
+            of_word(rt.alloc(), word, value)?.as_str(),
+            want.as_str(),
+            "at {value}"
+        );
+    }
+    assert_eq!(rt; of_word(rt.alloc(), "items", "7")?.as_str(), "shape schema");
+    Ok(())
+}
+
 // Arrays in arrays, as deep as content may be.
 fn nested(
     alloc: Global,
@@ -239,10 +319,12 @@ fn references_are_listed_in_order(rt: HostRuntime) -> Result<(), Fail> {
         b"{\"properties\":{\"see\":{\"items\":{\"cordra\":{\"type\":{\"handleReference\":{\"types\":[\"N\",\"M\"]}}}}},\
         \"by\":{\"cordra\":{\"type\":{\"handleReference\":{\"types\":[\"P\"]}}}}}}";
     let value = b"{\"see\":[\"35.T/1\",7,\"35.T/2\"],\"by\":\"35.T/3\",\"to\":\"35.T/4\"}";
-    let Ok(schema) = schema_of(rt.alloc(), &json_of(rt.alloc(), schema)) else {
+    let schema = read(rt.alloc(), schema, 127)?;
+    let Ok(schema) = schema_of(rt.alloc(), &schema) else {
         return Err(Fail::from("no schema"));
     };
-    let found = references(rt.alloc(), &schema, &json_of(rt.alloc(), value))?;
+    let value = read(rt.alloc(), value, 127)?;
+    let found = references(rt.alloc(), &schema, &value)?;
     let mut text = String::new(rt.alloc());
     for i in 0..found.len() {
         let one = found.item(i);
