@@ -1,8 +1,8 @@
 -- The segments of a table, while the buffer and the table grow at their ends.
 use Rattle.std.proofs.Common.{◌≡◌, ℕ, zero, suc, ◌-◌, ◌≤◌, ◌<◌, List, [], ◌∷◌, ◌++◌, length, take, drop, get_or, refl, ap, ◌∙◌, arith}
-use Rattle.std.proofs.lemmas.List.{take-append-le, drop-append-le, length-drop, take_rest}
+use Rattle.std.proofs.lemmas.List.{take-append-le, drop-append-le, length-drop, length-take, take_rest}
 use Rattle.std.proofs.Math.Seq.{drop-append_seam}
-use Rattle.std.specs.Prelude.{slice_range}
+use Rattle.std.specs.Prelude.{slice_range, All}
 use Rattle.doip_segment.specs.declared.kind.Kind.{Kind}
 use Rattle.doip_segment.specs.declared.message.Extent.{Extent}
 use Rattle.doip_segment.specs.Segments.{Segment, segment}
@@ -68,3 +68,17 @@ pushed_segments contents bytes es k bound a b within high from to =
     closed_segments (contents ++ bytes) es k a b to
     ∙ ap (λ x. segments_in (contents ++ bytes) es ++ segment k x ∷ []) new
     ∙ ap (λ ss. ss ++ segment k bytes ∷ []) (segments_stay contents bytes bound es within high)
+
+-- no segment is longer than the buffer
+pub segments_short : (contents : List ℕ) (bound : ℕ) (es : List Extent) → AreWithin bound es → bound ≤ length contents
+    → All (λ s. length s.bytes ≤ length contents) (segments_in contents es)
+segments_short contents bound [] within high = λ k d below. absurd (omega (arith, below))
+segments_short contents bound (e ∷ es) within high = by (segments_short contents bound es within.2 high)
+  where
+    by : All (λ s. length s.bytes ≤ length contents) (segments_in contents es) → (k : ℕ) (d : Segment)
+        → k < length (segments_in contents (e ∷ es))
+        → length (get_or (segments_in contents (e ∷ es)) k d).bytes ≤ length contents
+    by others zero d below =
+        let size = length-take (e.end - e.start) (drop e.start contents) in
+        omega (arith, size, within.0, within.1, high)
+    by others (suc k) d below = others k d (omega (arith, below))

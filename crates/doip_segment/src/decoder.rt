@@ -1,6 +1,6 @@
 //! The decoder: it looks at each byte of a session once, and copies contents by slices.
 
-ghost use Rattle.std.specs.Prelude.{◌≡◌, ◌≢◌, ◌+◌, ◌≤◌, ◌<◌, ◌↔◌, ℕ, List, [], ◌∷◌, ◌++◌, length, take, false, IsTrue, IfOk};
+ghost use Rattle.std.specs.Prelude.{◌≡◌, ◌≢◌, ◌+◌, ◌≤◌, ◌<◌, ◌↔◌, ℕ, List, [], ◌∷◌, ◌++◌, length, take, false, All, IsTrue, IfOk};
 ghost use Rattle.doip_segment.specs.Machine.{added, closed, limit_fault, is_done, start, end_of};
 ghost use Rattle.doip_segment.specs.Framing.{most_total};
 ghost use Rattle.doip_segment.specs.Decoding.{IsStanding, EndsBetween, Shows, Took, Feeds, Uses, Reports};
@@ -300,11 +300,13 @@ impl Decoder {
         matches!(self.standing(), Step::Message)
     }
 
-    /// The message that stands.
+    /// The message that stands. None of its segments is longer than 64 MiB, the greatest limit of a message.
     pub fn message(&self) -> &Message
         requires { IsStanding self.now }
-        ensures { result.now.segments ≡ self.now.segments }
+        ensures segments { result.now.segments ≡ self.now.segments }
+        ensures short { All (λ s. length s.bytes ≤ most_total) result.now.segments }
     {
+        self.message.recall_lengths();
         &self.message
     }
 

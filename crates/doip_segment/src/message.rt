@@ -1,6 +1,6 @@
 //! A message: one buffer of contents, and a table of its segments.
 
-ghost use Rattle.std.specs.Prelude.{◌≡◌, ◌+◌, ◌≤◌, ◌<◌, [], ◌∷◌, ◌++◌, length, OnOk, OnErr, IfOk};
+ghost use Rattle.std.specs.Prelude.{◌≡◌, ◌+◌, ◌≤◌, ◌<◌, [], ◌∷◌, ◌++◌, length, All, OnOk, OnErr, IfOk};
 ghost use Rattle.doip_segment.specs.Segments.{segment, segment_of};
 
 use crate::kind::Kind;
@@ -130,6 +130,13 @@ impl Message {
         self.contents.clear();
         self.extents.clear();
         self.start = 0;
+    }
+
+    // No segment is longer than what is used of the buffer.
+    pub(crate) fn recall_lengths(&self)
+        ensures { All (λ s. length s.bytes ≤ self.now.used) self.now.segments }
+    {
+        let _ = &self.contents;
     }
 
     /// How many bytes are in no segment yet.
