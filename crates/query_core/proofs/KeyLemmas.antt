@@ -5,8 +5,8 @@ use Rattle.dobj_field.specs.Field.{tokens_of, IsField}
 use Rattle.dobj_field.specs.declared.field.Field.{Field}
 use Rattle.dobj_field.specs.declared.field.Field.TheVariants.{Id, OfType, Pointer}
 use Rattle.query_core.specs.declared.order.SortKey.{SortKey}
-use Rattle.query_core.specs.declared.parts.Stop.TheVariants.{Comma, White}
-use Rattle.query_core.specs.Parts.{untaken, past_white}
+use Rattle.query_text.specs.declared.parts.Stop.TheVariants.{Comma, White}
+use Rattle.query_text.specs.Parts.{untaken, past_white}
 use Rattle.query_core.specs.Sorting.{IsSortPart, AreSortParts, NamesKeys}
 use Rattle.query_core.proofs.SortingLemmas.{part_known}
 

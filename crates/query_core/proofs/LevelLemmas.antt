@@ -5,9 +5,10 @@ use Rattle.std.proofs.Math.Bool.{and_assoc, or_assoc}
 use Rattle.std.proofs.lemmas.Bool.{lt-ltb}
 use Rattle.dobj_model.specs.declared.object.ObjectValue.{ObjectValue}
 use Rattle.query_core.specs.declared.matching.Level.{Level}
-use Rattle.query_core.specs.declared.query.Token.{Token}
-use Rattle.query_core.specs.declared.query.Token.TheVariants.{Open, Close, And, Or}
-use Rattle.query_core.specs.Query.{Disjunction, Conjunction, Term, alone, either, single, both, negated, group, every, test, tokens_of, conjunction_tokens, term_tokens, depth_of, conjunction_depth, term_depth, holds, conjunction_holds, term_holds, IsQuery}
+use Rattle.query_text.specs.declared.query.Token.{Token}
+use Rattle.query_text.specs.declared.query.Token.TheVariants.{Open, Close, And, Or}
+use Rattle.query_text.specs.Query.{Disjunction, Conjunction, Term, alone, either, single, both, negated, group, every, test, tokens_of, conjunction_tokens, term_tokens, depth_of, conjunction_depth, term_depth, IsQuery}
+use Rattle.query_core.specs.Meaning.{holds, conjunction_holds, term_holds}
 use Rattle.query_core.specs.Levels.{fresh, known, turned, joined, outcome}
 
 -- a level with no `NOT` before its next term

@@ -3,12 +3,12 @@ use Rattle.std.proofs.Common.{◌≡◌, ◌≢◌, ℕ, ◌<◌, ◌≤◌, inl
 use Rattle.std.proofs.lemmas.List.{take_all}
 use Rattle.std.specs.Option.{SomeIff}
 use Rattle.doip_json.specs.Sound.{IsWhole}
-use Rattle.query_core.specs.Spelling.{AreDigits, is_digit, all_digits, number_after}
-use Rattle.query_core.specs.Reading.{signed_number, sign_len, IsDigitRun, no_digit}
+use Rattle.query_text.specs.Spelling.{AreDigits, is_digit, all_digits, number_after}
+use Rattle.query_text.specs.Reading.{signed_number, sign_len, IsDigitRun, no_digit}
 use Rattle.query_core.specs.PageNumber.{IsShortNumeral, is_minus}
-use Rattle.query_core.proofs.SortingLemmas.{both}
-use Rattle.query_core.proofs.NumeralReads.{digits_after}
-use Rattle.query_core.proofs.BoundLemmas.{no_minus, not_both}
+use Rattle.query_text.proofs.CutLemmas.{both}
+use Rattle.query_text.proofs.NumeralReads.{digits_after}
+use Rattle.query_text.proofs.BoundLemmas.{no_minus, not_both}
 
 -- what is known of the digits of a short text
 abbrev pub Known : Bool → List ℕ → Type 0

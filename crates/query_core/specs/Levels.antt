@@ -5,8 +5,8 @@ use Rattle.std.specs.List.{list_any}
 use Rattle.dobj_model.specs.declared.object.ObjectValue.{ObjectValue}
 use Rattle.dobj_field.specs.Reach.{reached, passes}
 use Rattle.query_core.specs.declared.matching.Level.{Level}
-use Rattle.query_core.specs.declared.query.Token.{Token}
-use Rattle.query_core.specs.declared.query.Token.TheVariants.{Open, Close, Not, And, Or, Every, Test}
+use Rattle.query_text.specs.declared.query.Token.{Token}
+use Rattle.query_text.specs.declared.query.Token.TheVariants.{Open, Close, Not, And, Or, Every, Test}
 
 -- before the first token of a level
 abbrev pub fresh : Level

@@ -1,11 +1,6 @@
-pub mod Query
-pub mod Levels
-pub mod Parts
-pub mod Spelling
-pub mod Faults
-pub mod Stages
-pub mod Reading
+pub mod Meaning
 pub mod Sorting
 pub mod Order
 pub mod Page
 pub mod PageNumber
+pub mod Levels

@@ -2,7 +2,7 @@
 use Rattle.std.specs.Prelude.{◌≡◌, ◌≤◌, ◌⊎◌, ℕ, ℤ, pos, List, [], ◌∷◌, length, Bool, false, ◌==◌}
 use Rattle.doip_json.specs.Sound.{IsWhole}
 use Rattle.doip_json.specs.Value.{Value, null, truth, whole, text, list, table}
-use Rattle.query_core.specs.Spelling.{AreDigits, number_after, opposite}
+use Rattle.query_text.specs.Spelling.{AreDigits, number_after, opposite}
 
 -- 1 to 18 decimal digits, and optionally a `-` before them; such a number is in range
 abbrev pub IsShortNumeral : List ℕ → ℤ → Type 0

@@ -1,9 +1,14 @@
 -- The text that says by which keys hits are sorted. This project's own.
-use Rattle.std.specs.Prelude.{◌≡◌, ℕ, List, [], ◌∷◌, ◌++◌, length, Bool, true, false, if◌then◌else◌, Option, Some, None, codes}
+use Rattle.std.specs.Prelude.{◌≡◌, ℕ, List, [], ◌∷◌, ◌++◌, drop, length, Bool, true, false, ◌&&◌, if◌then◌else◌, Option, Some, None, nat_eq, codes}
+use Rattle.std.specs.List.{starts_with}
 use Rattle.dobj_field.specs.Field.{IsField}
 use Rattle.query_core.specs.declared.order.SortKey.{SortKey}
-use Rattle.query_core.specs.declared.parts.Stop.TheVariants.{Comma, White}
-use Rattle.query_core.specs.Parts.{untaken, all_white, past_white, is_word, BeginsWith}
+use Rattle.query_text.specs.declared.parts.Stop.TheVariants.{Comma, White}
+use Rattle.query_text.specs.Parts.{untaken, all_white, past_white, BeginsWith}
+
+-- the word, and white bytes after it
+abbrev pub is_word : List ℕ → List ℕ → Bool
+is_word word bytes = starts_with nat_eq bytes word && all_white (drop (length word) bytes)
 
 -- whether the highest key comes first, by what stands after the field: nothing or `ASC`, or `DESC`
 abbrev pub direction_in : List ℕ → Option Bool

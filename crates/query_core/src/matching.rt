@@ -1,12 +1,12 @@
 //! Which objects a query holds of.
 ghost use Rattle.std.specs.Prelude.{◌≡◌, ◌<◌, ◌++◌, ◌∷◌, [], length};
-ghost use Rattle.query_core.specs.Query.{Disjunction, IsQuery, holds};
+ghost use Rattle.query_text.specs.Query.{Disjunction, IsQuery};
+ghost use Rattle.query_core.specs.Meaning.{holds};
 ghost use Rattle.query_core.specs.Levels.{fresh, known, turned, next_conjunction, joined};
 
-use crate::nesting::DEEPEST;
-use crate::query::{Query, Token};
 use dobj_field::reaches;
 use dobj_model::Object;
+use query_text::{DEEPEST, Query, Token};
 use std::marker::Model;
 
 /// What is known at one level of parentheses.

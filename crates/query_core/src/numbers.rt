@@ -3,8 +3,8 @@ ghost use Rattle.std.specs.Prelude.{◌≡◌, ◌<◌, ◌≤◌, ◌↔◌, �
 ghost use Rattle.doip_json.specs.Meaning.{value_of};
 ghost use Rattle.query_core.specs.PageNumber.{IsPageNumber, IsShortNumeral, is_minus};
 
-use crate::range::{digits_len, number_of, sign_len};
 use doip_json::{Json, Num};
+use query_text::numerals::{digits_len, number_of, sign_len};
 
 /// The number that a value gives for `pageNum` or `pageSize`: an integer, or a string of an optional `-` and 1 to 18
 /// digits, of which `-0` is 0. `None` exactly when it gives none. It takes no memory.

@@ -2,11 +2,11 @@
 ghost use Rattle.std.specs.Prelude.{◌≡◌, IfOk, IsErrOf, IsUtf8, List};
 ghost use Rattle.query_core.specs.declared.order.SortKey.{SortKey};
 ghost use Rattle.dobj_field.specs.Field.{IsField, NamesField};
-ghost use Rattle.query_core.specs.Sorting.{direction_in, IsSortPart, NamesKeys, AreSortParts};
+ghost use Rattle.query_core.specs.Sorting.{direction_in, is_word, IsSortPart, NamesKeys, AreSortParts};
 
 use crate::order::{Order, SortKey};
-use crate::parts::{Stop, all_white, is_word, untaken, white_len};
 use dobj_field::{Field, FieldFault, field_of};
+use query_text::parts::{Stop, all_white, untaken, white_len};
 use std::alloc::{AllocError, AllocFailed, Global};
 use std::str::from_utf8;
 
@@ -114,4 +114,11 @@ fn direction_of(rest: &[u8]) -> Option<bool>
     } else {
         None
     }
+}
+
+// Whether the word stands at the head, and only white bytes after it.
+fn is_word(bytes: &[u8], word: &[u8]) -> bool
+    ensures { result ≡ is_word word.now bytes.now }
+{
+    bytes.starts_with(word) && all_white(&bytes[word.len()..])
 }

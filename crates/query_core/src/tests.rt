@@ -87,6 +87,15 @@ fn a_text_names_keys_or_is_refused(rt: HostRuntime) -> Result<(), Fail> {
     Ok(())
 }
 
+// Objects with these identifiers and contents.
+fn objects_of(alloc: Global, rows: &[(&str, &str)]) -> Result<Vec<Object>, Fail> {
+    let mut objects = Vec::new(alloc);
+    for row in rows {
+        objects.push(object(alloc, row.0, row.1)?)?;
+    }
+    Ok(objects)
+}
+
 // Six objects, a to f, with their contents.
 fn objects(alloc: Global) -> Result<Vec<Object>, Fail> {
     let rows = [
@@ -97,18 +106,17 @@ fn objects(alloc: Global) -> Result<Vec<Object>, Fail> {
         ("e", "{\"k\":false}"),
         ("f", "{\"k\":9}"),
     ];
-    let mut objects = Vec::new(alloc);
-    for row in &rows {
-        objects.push(object(alloc, row.0, row.1)?)?;
-    }
-    Ok(objects)
+    objects_of(alloc, &rows)
 }
 
-// Whether each row's order and page give the identifiers after them.
-fn pages_are(alloc: Global, rows: &[(&str, u64, Option<u64>, &str)]) -> Result<bool, Fail> {
-    let objects = objects(alloc)?;
+// Whether each row's order and page of the objects give the identifiers after them.
+fn pages_are(
+    alloc: Global,
+    objects: &[Object],
+    rows: &[(&str, u64, Option<u64>, &str)],
+) -> Result<bool, Fail> {
     for row in rows {
-        if letters(alloc, &objects, row.0, row.1, row.2)?.as_str() != row.3 {
+        if letters(alloc, objects, row.0, row.1, row.2)?.as_str() != row.3 {
             return Ok(false);
         }
     }
@@ -122,8 +130,37 @@ fn hits_are_sorted(rt: HostRuntime) -> Result<(), Fail> {
         ("/k", 0, None, "fcebad"),
         ("/k DESC", 0, None, "becfad"),
         ("/k/_,id DESC", 0, None, "dfecba"),
+        ("/k DESC , id DESC", 0, None, "becfda"),
+        ("type DESC", 0, None, "abcdef"),
+        ("type,id DESC", 0, None, "fedcba"),
+        ("/l,/k ASC", 0, None, "fcebad"),
     ];
-    assert!(rt; pages_are(rt.alloc(), &rows)?);
+    assert!(rt; pages_are(rt.alloc(), &objects(rt.alloc())?, &rows)?);
+    Ok(())
+}
+
+// Seven objects, a to g, whose keys are numbers and strings.
+fn numbers_and_strings(alloc: Global) -> Result<Vec<Object>, Fail> {
+    let rows = [
+        ("a", "{\"k\":10}"),
+        ("b", "{\"k\":\"10\"}"),
+        ("c", "{\"k\":-5}"),
+        ("d", "{\"k\":\"9\"}"),
+        ("e", "{\"k\":9}"),
+        ("f", "{\"k\":\"a\"}"),
+        ("g", "{\"k\":\"Z\"}"),
+    ];
+    objects_of(alloc, &rows)
+}
+
+#[test]
+fn numbers_go_by_size_and_strings_by_bytes(rt: HostRuntime) -> Result<(), Fail> {
+    let rows = [
+        ("/k", 0, None, "ceabdgf"),
+        ("/k DESC", 0, None, "fgdbaec"),
+        ("/k DESC", 2, Some(3), "c"),
+    ];
+    assert!(rt; pages_are(rt.alloc(), &numbers_and_strings(rt.alloc())?, &rows)?);
     Ok(())
 }
 
@@ -135,8 +172,11 @@ fn sorted_hits_are_cut_into_pages(rt: HostRuntime) -> Result<(), Fail> {
         ("id", 9, Some(1), ""),
         ("id", 4_294_967_296, Some(4_294_967_296), ""),
         ("id", 0, Some(0), ""),
+        ("id", 0, Some(6), "abcdef"),
+        ("id", 1, Some(6), ""),
+        ("id", 2, None, "abcdef"),
     ];
-    assert!(rt; pages_are(rt.alloc(), &rows)?);
+    assert!(rt; pages_are(rt.alloc(), &objects(rt.alloc())?, &rows)?);
     Ok(())
 }
 

@@ -1,6 +1,7 @@
 use Rattle.std.proofs.Common.{◌≡◌, drop, Some}
 use Rattle.std.specs.Prelude.{reverse}
-use Rattle.query_core.specs.Query.{Disjunction, IsQuery, holds}
+use Rattle.query_text.specs.Query.{Disjunction, IsQuery}
+use Rattle.query_core.specs.Meaning.{holds}
 use Rattle.query_core.specs.Levels.{outcome}
 use Rattle.query_core.proofs.matching.matches.Given as goal
 

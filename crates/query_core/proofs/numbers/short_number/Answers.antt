@@ -1,7 +1,7 @@
 use Rattle.std.proofs.Common.{◌<◌, ◌≤◌, length, drop, sym, ap, ◌∙◌, refl, arith}
 use Rattle.dobj_field.proofs.PointerLemmas.{rest_is}
-use Rattle.query_core.specs.Spelling.{number_after}
-use Rattle.query_core.specs.Reading.{sign_len, signed_number}
+use Rattle.query_text.specs.Spelling.{number_after}
+use Rattle.query_text.specs.Reading.{sign_len, signed_number}
 use Rattle.query_core.proofs.NumberLemmas.{short_known, all_counted, short_reads, some_short, none_short}
 use Rattle.query_core.proofs.numbers.short_number.Goals as goal
 

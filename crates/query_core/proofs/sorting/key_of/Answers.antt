@@ -1,11 +1,12 @@
 use Rattle.std.proofs.Common.{◌≡◌, ◌-◌, ◌++◌, length, take, drop, Err, ap, sym, ◌∙◌}
 use Rattle.std.proofs.lemmas.List.{take-append-drop}
 use Rattle.dobj_field.proofs.PointerLemmas.{rest_is}
-use Rattle.query_core.specs.declared.parts.Stop.TheVariants.{White}
+use Rattle.query_text.specs.declared.parts.Stop.TheVariants.{White}
 use Rattle.query_core.specs.declared.sorting.OrderFault.TheVariants.{Refused}
-use Rattle.query_core.specs.Parts.{untaken, past_white}
+use Rattle.query_text.specs.Parts.{untaken, past_white}
 use Rattle.query_core.specs.Sorting.{direction_in}
-use Rattle.query_core.proofs.SortingLemmas.{part_known, split_white, stop_after, utf8_past_white, utf8_before_stop}
+use Rattle.query_text.proofs.CutLemmas.{split_white, stop_after, utf8_past_white, utf8_before_stop}
+use Rattle.query_core.proofs.SortingLemmas.{part_known}
 use Rattle.query_core.proofs.sorting.key_of.Goals as goal
 
 pub returns-in_default-clause-refused : goal.returns-in_default-clause-refused

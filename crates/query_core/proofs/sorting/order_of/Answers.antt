@@ -1,9 +1,10 @@
 use Rattle.std.proofs.Common.{◌≡◌, ◌<◌, length, drop, Err, ap, ◌∙◌, arith}
 use Rattle.dobj_field.proofs.PointerLemmas.{rest_is}
-use Rattle.query_core.specs.declared.parts.Stop.TheVariants.{Comma}
+use Rattle.query_text.specs.declared.parts.Stop.TheVariants.{Comma}
 use Rattle.query_core.specs.declared.sorting.OrderFault.TheVariants.{Refused}
-use Rattle.query_core.specs.Parts.{untaken}
-use Rattle.query_core.proofs.SortingLemmas.{sorting_next, sorting_refused, utf8_before_stop}
+use Rattle.query_text.specs.Parts.{untaken}
+use Rattle.query_text.proofs.CutLemmas.{utf8_before_stop}
+use Rattle.query_core.proofs.SortingLemmas.{sorting_next, sorting_refused}
 use Rattle.query_core.proofs.sorting.order_of.Goals as goal
 
 pub key_of-requires : goal.key_of-requires

@@ -1,6 +1,0 @@
-use Rattle.std.proofs.Common.{◌≡◌, take, min}
-use Rattle.query_core.specs.Spelling.{number_after}
-use Rattle.query_core.proofs.range.number_of.Given as goal
-
-abbrev pub invariant-loop-digit : goal.invariant-loop-digit
-invariant-loop-digit l = l.magnitude ≡ min (number_after 0 (take l.digit-index l.digits)) 18446744073709551616
