@@ -4,3 +4,5 @@ pub mod PageLemmas
 pub mod SortingLemmas
 pub mod KeyLemmas
 pub mod NumberLemmas
+pub mod StrictLemmas
+pub mod SetLemmas

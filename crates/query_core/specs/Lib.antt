@@ -1,4 +1,5 @@
 pub mod Meaning
+pub mod Hits
 pub mod Sorting
 pub mod Order
 pub mod Page
