@@ -1,39 +1,12 @@
 -- A text names at most one list of keys.
-use Rattle.std.proofs.Common.{◌≡◌, ℕ, List, [], ◌∷◌, ◌++◌, length, take, drop, Bool, Some, refl, sym, ap, ◌∙◌, subst, arith, length-append}
-use Rattle.std.proofs.Math.Seq.{take-append_seam, drop-append_seam}
-use Rattle.dobj_field.specs.Field.{tokens_of, IsField}
+use Rattle.std.proofs.Common.{◌≡◌, ℕ, List, [], ◌∷◌, ◌++◌, length, take, Bool, Some, sym, ap, ◌∙◌, subst, arith, length-append}
 use Rattle.dobj_field.specs.declared.field.Field.{Field}
-use Rattle.dobj_field.specs.declared.field.Field.TheVariants.{Id, OfType, Pointer}
+use Rattle.query_text.proofs.OneValues.{tails, one_field, same_cut}
 use Rattle.query_core.specs.declared.order.SortKey.{SortKey}
 use Rattle.query_text.specs.declared.parts.Stop.TheVariants.{Comma, White}
 use Rattle.query_text.specs.Parts.{untaken, past_white}
 use Rattle.query_core.specs.Sorting.{IsSortPart, AreSortParts, NamesKeys}
 use Rattle.query_core.proofs.SortingLemmas.{part_known}
-
-heads : (x y : ℕ) (a b : List ℕ) → x ∷ a ≡ y ∷ b → x ≡ y
-heads x y a b same = cc
-
-tails : (x y : ℕ) (a b : List ℕ) → x ∷ a ≡ y ∷ b → a ≡ b
-tails x y a b same = cc
-
--- a text names at most one field
-pub one_field : (text : List ℕ) (one other : Field) → IsField text one → IsField text other → one ≡ other
-one_field text Id Id a b = refl
-one_field text Id OfType a b = let bad = heads 105 116 (100 ∷ []) (121 ∷ 112 ∷ 101 ∷ []) (sym a ∙ b) in
-    absurd (omega arith)
-one_field text Id (Pointer tokens) a b = let bad = heads 105 47 (100 ∷ []) b.0 (sym a ∙ b.1) in absurd (omega arith)
-one_field text OfType Id a b = let bad = heads 116 105 (121 ∷ 112 ∷ 101 ∷ []) (100 ∷ []) (sym a ∙ b) in
-    absurd (omega arith)
-one_field text OfType OfType a b = refl
-one_field text OfType (Pointer tokens) a b = let bad = heads 116 47 (121 ∷ 112 ∷ 101 ∷ []) b.0 (sym a ∙ b.1) in
-    absurd (omega arith)
-one_field text (Pointer tokens) Id a b = let bad = heads 47 105 a.0 (100 ∷ []) (sym a.1 ∙ b) in absurd (omega arith)
-one_field text (Pointer tokens) OfType a b = let bad = heads 47 116 a.0 (121 ∷ 112 ∷ 101 ∷ []) (sym a.1 ∙ b) in
-    absurd (omega arith)
-one_field text (Pointer tokens) (Pointer others) a b =
-    let rests : a.0 ≡ b.0 = tails 47 47 a.0 b.0 (sym a.1 ∙ b.1) in
-    let same : Some tokens ≡ Some others = sym a.2 ∙ (ap tokens_of rests ∙ b.2) in
-    let whole : tokens ≡ others = cc in ap Pointer whole
 
 some_flag : (a b : Bool) → Some a ≡ Some b → a ≡ b
 some_flag a b same = cc
@@ -62,14 +35,8 @@ same_parts : (text part rest other after : List ℕ) → text ≡ part ++ 44 ∷
     → (part ≡ other) × (rest ≡ after)
 same_parts text part rest other after one two far also =
     let long : length part ≡ length other = sym far ∙ also in
-    let whole : part ++ 44 ∷ rest ≡ other ++ 44 ∷ after = sym one ∙ two in
-    let parts : part ≡ other = sym (take-append_seam part (44 ∷ rest))
-    ∙ (ap (take (length part)) whole
-    ∙ (ap (λ n. take n (other ++ 44 ∷ after)) long ∙ take-append_seam other (44 ∷ after))) in
-    let rests : 44 ∷ rest ≡ 44 ∷ after = sym (drop-append_seam part (44 ∷ rest))
-    ∙ (ap (drop (length part)) whole
-    ∙ (ap (λ n. drop n (other ++ 44 ∷ after)) long ∙ drop-append_seam other (44 ∷ after))) in
-    (parts, tails 44 44 rest after rests)
+    let parts = same_cut part (44 ∷ rest) other (44 ∷ after) long (sym one ∙ two) in
+    (parts.0, tails 44 44 rest after parts.1)
 
 one_list_of : (keys others : List SortKey) (text : List ℕ) → AreSortParts text keys → AreSortParts text others
     → keys ≡ others

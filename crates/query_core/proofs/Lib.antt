@@ -1,4 +1,5 @@
 pub mod LevelLemmas
+pub mod MeaningLemmas
 pub mod OrderLemmas
 pub mod PageLemmas
 pub mod SortingLemmas

@@ -42,7 +42,8 @@ pub strict : (keys : List SortKey) (sorted : List ObjectValue) → IsSorted (by_
     → IsStrictlySortedBy (by_keys keys) sorted
 strict keys sorted ascends apart =
     strict_from (by_keys_total keys) sorted (λ i j d below inside. less (get_or sorted i d) (get_or sorted j d)
-    (apart i j d below inside) (sorted_far (λ x y. is_lt (by_keys keys x y)) weak sorted ascends i j d (omega arith) inside))
+    (apart i j d below inside)
+    (sorted_far (λ x y. is_lt (by_keys keys x y)) weak sorted ascends i j d (omega arith) inside))
   where
     weak : IsStrictWeakOrder (λ (x y : ObjectValue). is_lt (by_keys keys x y))
     weak = ranks_by (by_keys_total keys) (λ (x : ObjectValue). x)

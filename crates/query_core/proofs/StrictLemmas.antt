@@ -127,7 +127,8 @@ pairs_swap {X} R turn l a b one two pairs i j d below inside =
     both_ways : (m n : ℕ) → m < length l → n < length l → (m ≡ n → ⊥) → (m < n) ⊎ (n ≤ m)
         → R (get_or l m d) (get_or l n d)
     both_ways m n low high other (inl less) = pairs m n d less high
-    both_ways m n low high other (inr more) = turn (get_or l n d) (get_or l m d) (pairs n m d (less_of m n other more) low)
+    both_ways m n low high other (inr more) =
+        turn (get_or l n d) (get_or l m d) (pairs n m d (less_of m n other more) low)
       where
         less_of : (m n : ℕ) → (m ≡ n → ⊥) → n ≤ m → n < m
         less_of m n other more = strictly (cases_lt n m)

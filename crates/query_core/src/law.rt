@@ -1,13 +1,22 @@
 //! Laws on the definitions. Their bodies are empty.
-ghost use Rattle.std.specs.Prelude.{◌≡◌, ℕ, List, Bool, Option, ◌&&◌};
+ghost use Rattle.std.specs.Prelude.{◌≡◌, ◌&&◌, Bool, List, Option, true, ℕ};
 ghost use Rattle.std.specs.List.{Contains, filter};
 ghost use Rattle.dobj_model.specs.declared.object.ObjectValue.{ObjectValue};
-ghost use Rattle.query_text.specs.Query.{Disjunction};
+ghost use Rattle.query_text.specs.declared.query.Token.{Token};
+ghost use Rattle.query_text.specs.Query.{Disjunction, IsQuery};
+ghost use Rattle.query_text.specs.Spelling.{Spelt};
 ghost use Rattle.query_core.specs.declared.order.SortKey.{SortKey};
 ghost use Rattle.query_core.specs.Meaning.{holds};
 ghost use Rattle.query_core.specs.Hits.{AreApart, AreTheHits, IsHit};
 ghost use Rattle.query_core.specs.Page.{IsPage, IsPageOf};
 ghost use Rattle.query_core.specs.Sorting.{NamesKeys};
+
+/// A text has at most one meaning: in whatever way it is read as a query, that holds of the same objects.
+pub fn one_meaning_of_a_text()
+    ensures { (text : List ℕ) (tokens others : List Token) (query other : Disjunction) (object : ObjectValue)
+        → Spelt true text tokens → IsQuery tokens query → Spelt true text others → IsQuery others other
+        → holds query object ≡ holds other object }
+{}
 
 /// A text names at most one list of keys.
 pub fn one_list_of_keys()
@@ -15,8 +24,8 @@ pub fn one_list_of_keys()
         → keys ≡ others }
 {}
 
-/// A scan finds the hits: of objects with an identifier each, it keeps those that may be read and of which the query
-/// holds.
+/// A scan finds the hits: of objects of which no two have one identifier, it keeps those that may be read and of which
+/// the query holds.
 pub fn a_scan_finds_the_hits()
     ensures { (objects : List ObjectValue) (may_read : ObjectValue → Bool) (query : Disjunction) → AreApart objects
         → AreTheHits (IsHit (Contains objects) may_read query)

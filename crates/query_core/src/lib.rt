@@ -5,8 +5,9 @@
 //! reference.
 //!
 //! A contract sees a [`Query`] as the list of its tokens, an [`Order`] as its list of [`SortKey`], and [`Hits`] as the
-//! list of objects. `holds` of `specs/Meaning.antt` is the meaning of a query. `IsPage` of `specs/Page.antt` says what a
-//! page of a list of hits is, in whatever order they were found, and `IsPageOf` what the page of a set of hits is.
+//! list of objects. `holds` of `specs/Meaning.antt` is the meaning of a query, `IsHit` of `specs/Hits.antt` says what a
+//! hit is. `IsPage` of `specs/Page.antt` says what a page of a list of hits is, in whatever order they were found, and
+//! `IsPageOf` what the page of a set of hits is.
 //!
 //! Read [`matches`] and [`page`] first.
 #![tactic(auto)]
@@ -22,7 +23,7 @@ mod tests;
 
 pub use hits::{Hits, page};
 pub use law::{
-    a_scan_finds_the_hits, one_list_of_keys, one_page_of_the_same_hits,
+    a_scan_finds_the_hits, one_list_of_keys, one_meaning_of_a_text, one_page_of_the_same_hits,
     the_page_of_a_list_is_that_of_its_set,
 };
 pub use matching::matches;

@@ -64,7 +64,7 @@ pub record Numeral (bytes : List ℕ) (number : ℤ) : Type 0 where
   pub bytes_are : bytes ≡ signed minus digits
   pub number_is : number ≡ signed_number minus (number_after 0 digits)
 
-numeral_of : (bytes : List ℕ) (number : ℤ) → IsNumeral bytes number → Numeral bytes number
+pub numeral_of : (bytes : List ℕ) (number : ℤ) → IsNumeral bytes number → Numeral bytes number
 numeral_of bytes number (digits, are, inl is) =
     record { minus = false; digits = digits; are = are; bytes_are = is.0; number_is = is.1 }
 numeral_of bytes number (digits, are, inr is) =
@@ -95,7 +95,7 @@ signed_extends true false one two more rest are also blunt same =
     absurd (no_minus two rest (one ++ more) also (sym same))
 signed_extends false true one two more rest are also blunt same = absurd (no_minus one more (two ++ rest) are same)
 
-numeral_extends : (one two more rest : List ℕ) (a b : ℤ) (p : Numeral one a) (q : Numeral two b)
+pub numeral_extends : (one two more rest : List ℕ) (a b : ℤ) (p : Numeral one a) (q : Numeral two b)
     → no_digit rest ≡ true → one ++ more ≡ two ++ rest
     → (p.minus ≡ q.minus) × Extends p.digits q.digits more rest
 numeral_extends one two more rest a b p q blunt same =
@@ -110,7 +110,7 @@ signed_no_star true digits more rest are same = let byte = heads 45 42 (digits +
     absurd (omega arith)
 signed_no_star false digits more rest are same = no_star digits more rest are same
 
-numeral_no_star : (bytes more rest : List ℕ) (number : ℤ) → Numeral bytes number → bytes ++ more ≡ 42 ∷ rest → ⊥
+pub numeral_no_star : (bytes more rest : List ℕ) (number : ℤ) → Numeral bytes number → bytes ++ more ≡ 42 ∷ rest → ⊥
 numeral_no_star bytes more rest number p same =
     signed_no_star p.minus p.digits more rest p.are (ap (λ t. t ++ more) (sym p.bytes_are) ∙ same)
 

@@ -18,3 +18,5 @@ pub mod TestLemmas
 pub mod TokenReads
 pub mod TreeLemmas
 pub mod ReadLemmas
+pub mod OneValues
+pub mod OneSpelling

@@ -94,7 +94,7 @@ same_end rest n more is inside =
     ap (untaken Colon) (sym (colon_there rest n is inside)) ∙ (sym is ∙ sym long) in
     untaken_again Colon (take n rest) 58 (drop (n + 1) rest) more (no_backslash58 58 refl) refl was ∙ long
 
-ends_at : (name r : List ℕ) (field : Field) → IsField name field → untaken Colon (name ++ 58 ∷ r) ≡ length name
+pub ends_at : (name r : List ℕ) (field : Field) → IsField name field → untaken Colon (name ++ 58 ∷ r) ≡ length name
 ends_at name r field is = field_end Colon colon_ends name (58 ∷ r) field refl is
 
 pub taken_again : (rest : List ℕ) (n : ℕ) → n ≡ untaken Colon rest → n < length rest

@@ -37,7 +37,7 @@ digits_sharp : (digits rest : List ℕ) → AreDigits digits → is_sharp (digit
 digits_sharp [] rest are = absurd (are.0 refl)
 digits_sharp (x ∷ digits) rest are = ap not (digit_dark x (both (is_digit x) (all_digits digits) are.1).0)
 
-numeral_sharp : (bytes rest : List ℕ) (z : ℤ) → IsNumeral bytes z → is_sharp (bytes ++ rest) ≡ true
+pub numeral_sharp : (bytes rest : List ℕ) (z : ℤ) → IsNumeral bytes z → is_sharp (bytes ++ rest) ≡ true
 numeral_sharp bytes rest z (digits, are, inl is) = ap (λ b. is_sharp (b ++ rest)) is.0 ∙ digits_sharp digits rest are
 numeral_sharp bytes rest z (digits, are, inr is) = ap (λ b. is_sharp (b ++ rest)) is.0
 
@@ -45,7 +45,7 @@ pub bound_sharp : (N : Bool → List ℕ → Type 0) → Sharp (Bound N)
 bound_sharp N strict text (bytes, rest, None, are, is, said) = ap is_sharp (are ∙ ap (λ b. b ++ rest) is)
 bound_sharp N strict text (bytes, rest, Some z, are, is, said) = ap is_sharp are ∙ numeral_sharp bytes rest z is.0
 
-gap_blunt : (gap rest : List ℕ) → IsGap gap → no_digit (gap ++ rest) ≡ true
+pub gap_blunt : (gap rest : List ℕ) → IsGap gap → no_digit (gap ++ rest) ≡ true
 gap_blunt [] rest is = absurd (is.0 refl)
 gap_blunt (x ∷ gap) rest is = white_blunt x (both (is_white x) (all_white gap) is.1).0
 
@@ -57,7 +57,7 @@ gap_after N live lax = record {
   blunt = λ strict text (gap, rest, are, is, said). ap no_digit are ∙ gap_blunt gap rest is;
 }
 
-white_word_blunt : (white rest : List ℕ) → all_white white ≡ true → no_digit (white ++ 93 ∷ rest) ≡ true
+pub white_word_blunt : (white rest : List ℕ) → all_white white ≡ true → no_digit (white ++ 93 ∷ rest) ≡ true
 white_word_blunt [] rest is = refl
 white_word_blunt (x ∷ white) rest is = white_blunt x (both (is_white x) (all_white white) is).0
 

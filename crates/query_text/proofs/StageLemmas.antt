@@ -76,7 +76,7 @@ past_sharp (x ∷ rest) = by_white (is_white x) refl (past_sharp rest)
     by_white false is more = rw (is, is) refl
 
 -- white bytes end where a byte that isn't white stands
-white_split : (one two a b : List ℕ) → all_white one ≡ true → all_white two ≡ true → is_sharp a ≡ true
+pub white_split : (one two a b : List ℕ) → all_white one ≡ true → all_white two ≡ true → is_sharp a ≡ true
     → is_sharp b ≡ true → one ++ a ≡ two ++ b → a ≡ b
 white_split one two a b white also keen sharp_b same =
     sym (sharp_past a keen) ∙ (sym (skip_white one a white)

@@ -47,7 +47,7 @@ prefix_sharp start rest spelt (inl word) = ap is_sharp (append_assoc start (42 �
     ∙ dark_word start (42 ∷ rest) word.0 word.1.0
 prefix_sharp start rest spelt (inr none) = ap (λ s. is_sharp ((s ++ 42 ∷ []) ++ rest)) none.0
 
-value_bytes_sharp : (strict : Bool) (bytes rest : List ℕ) (test : ScalarTest) → IsValue strict bytes test
+pub value_bytes_sharp : (strict : Bool) (bytes rest : List ℕ) (test : ScalarTest) → IsValue strict bytes test
     → is_sharp (bytes ++ rest) ≡ true
 value_bytes_sharp strict bytes rest (Equals spelt) (inl word) = dark_word bytes rest word.0 word.1.0
 value_bytes_sharp strict bytes rest (Equals spelt) (inr quoted) = ap (λ b. is_sharp (b ++ rest)) quoted.1

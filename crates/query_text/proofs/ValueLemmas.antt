@@ -201,7 +201,7 @@ pub record QuoteLike (K : Bool → List ℕ → Type 0) (strict : Bool) (text : 
   pub closed : taking ends_quoted false inside ≡ Some false
   pub goes : K strict rest
 
-no_quoted_word : (bytes rest text : List ℕ) → 34 ∷ text ≡ bytes ++ rest → begins_word bytes ≡ true
+pub no_quoted_word : (bytes rest text : List ℕ) → 34 ∷ text ≡ bytes ++ rest → begins_word bytes ≡ true
     → taking ends_word false bytes ≡ Some false → ⊥
 no_quoted_word [] rest text are begins said = cc
 no_quoted_word (x ∷ bytes) rest text are begins said =
@@ -214,18 +214,18 @@ no_quoted_star : (start bytes rest text : List ℕ) → 34 ∷ text ≡ bytes ++
 no_quoted_star start bytes rest text are is none =
     let whole : 34 ∷ text ≡ 42 ∷ rest = are ∙ (ap (λ b. b ++ rest) is ∙ ap (λ s. (s ++ 42 ∷ []) ++ rest) none) in cc
 
-no_quoted_square : (bytes rest text inside : List ℕ) → 34 ∷ text ≡ bytes ++ rest → bytes ≡ 91 ∷ inside → ⊥
+pub no_quoted_square : (bytes rest text inside : List ℕ) → 34 ∷ text ≡ bytes ++ rest → bytes ≡ 91 ∷ inside → ⊥
 no_quoted_square bytes rest text inside are is =
     let whole : 34 ∷ text ≡ 91 ∷ (inside ++ rest) = are ∙ ap (λ b. b ++ rest) is in cc
 
-quoted_inside : (bytes rest text inside : List ℕ) → 34 ∷ text ≡ bytes ++ rest → bytes ≡ 34 ∷ (inside ++ 34 ∷ [])
+pub quoted_inside : (bytes rest text inside : List ℕ) → 34 ∷ text ≡ bytes ++ rest → bytes ≡ 34 ∷ (inside ++ 34 ∷ [])
     → inside ++ 34 ∷ rest ≡ text
 quoted_inside bytes rest text inside are is =
     let whole : 34 ∷ text ≡ 34 ∷ ((inside ++ 34 ∷ []) ++ rest) = are ∙ ap (λ b. b ++ rest) is in
     let more : text ≡ (inside ++ 34 ∷ []) ++ rest = cc in
     sym (more ∙ append_assoc inside (34 ∷ []) rest)
 
-quoted_prefix : (start bytes rest text spelt : List ℕ) → 34 ∷ text ≡ bytes ++ rest → bytes ≡ start ++ 42 ∷ []
+pub quoted_prefix : (start bytes rest text spelt : List ℕ) → 34 ∷ text ≡ bytes ++ rest → bytes ≡ start ++ 42 ∷ []
     → IsWord start spelt ⊎ ((start ≡ []) × (spelt ≡ [])) → ⊥
 quoted_prefix start bytes rest text spelt are is (inl word) =
     no_quoted_word start (42 ∷ rest) text
