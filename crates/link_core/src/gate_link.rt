@@ -181,20 +181,37 @@ impl Link for GateLink {
 }
 
 impl MemoryForm for GateLink {
-    ghost use Rattle.link_core.specs.Gate.{gate_bytes, gate_scripts};
+    ghost use Rattle.link_core.specs.Host.{IsNew, IsFresh};
+    ghost use Rattle.link_core.specs.Memory.{restarted_both, marked_both};
+    ghost use Rattle.link_core.specs.Gate.{gate_state, gate_bytes, gate_scripts, turns_of, opened_by, SameGates};
 
     ghost bytes = { gate_bytes };
 
     ghost scripts = { gate_scripts };
 
-    fn afresh(mut self) -> Self {
+    fn afresh(mut self) -> Self
+        ensures new { IsNew (gate_bytes self) (gate_state result) }
+        ensures fresh { IsFresh (gate_state result) }
+        ensures bytes { gate_bytes result ≡ gate_bytes self }
+        ensures scripts { gate_scripts result ≡ restarted_both (gate_scripts self) }
+
+        ensures gates { SameGates self result }
+        ensures start { (turns_of result ≡ 0) × (opened_by result ≡ 0) }
+    {
         self.link = self.link.afresh();
         self.opened_by = 0;
         self.turns = 0;
         self
     }
 
-    fn marked(mut self, reads: Vec<u64>, writes: Vec<u64>) -> Self {
+    fn marked(mut self, reads: Vec<u64>, writes: Vec<u64>) -> Self
+        ensures state { gate_state result ≡ gate_state self }
+        ensures bytes { gate_bytes result ≡ gate_bytes self }
+        ensures scripts { gate_scripts result ≡ marked_both reads.items writes.items (gate_scripts self) }
+
+        ensures gates { SameGates self result }
+        ensures turns { (turns_of result ≡ turns_of self) × (opened_by result ≡ opened_by self) }
+    {
         self.link = self.link.marked(reads, writes);
         self
     }

@@ -77,7 +77,8 @@ impl<L: MemoryForm + Drop> Listener for MemoryListener<L> {
     fn accept(&mut self) -> Result<Option<L>, Failed>
         ensures listener { Accepts L.state (listener_state L.bytes self.old) (listener_state L.bytes self.new) result }
         ensures listed { IsErr result ↔ AcceptFails self.old }
-        ensures link { IfOk result (λ found. option_map L.scripts found ≡ accepted_scripts L.scripts (links_of self.old)) }
+        ensures link { IfOk result (λ found.
+            option_map L.scripts found ≡ accepted_scripts L.scripts (links_of self.old)) }
         ensures others { MatchResult result (λ _. links_of self.new ≡ rest_of (links_of self.old))
             (λ _. links_of self.new ≡ links_of self.old) }
         ensures calls { accept_calls self.new ≡ one_more (accept_calls self.old) }

@@ -34,8 +34,8 @@ enum Stream {
 
 /// Standard input and output, or a socket, as one link. Contracts see nothing of what it holds; it counts its faults.
 ///
-/// The console waits without a limit. A socket that gives or takes no byte for five minutes has a fault. Closing a socket
-/// ends what it writes and reads what its peer still sends, within bounds, so that the last reply arrives.
+/// The console waits without a limit. A socket that gives or takes no byte for five minutes has a fault. Closing a
+/// socket ends what it writes and reads what its peer still sends, within bounds, so that the last reply arrives.
 #[derive(Drop)]
 pub struct RealLink {
     stream: Stream,
