@@ -3,7 +3,7 @@ use Rattle.std.specs.Prelude.{◌≡◌, ◌≤◌, ◌+◌, ◌-◌, ◌^◌, �
 use Rattle.std.specs.Map.{lookup, remove_entry}
 use Rattle.std.specs.Cmp.Lexicographic.{slice_cmp}
 use Rattle.std.specs.Ordering.{nat_cmp}
-use Rattle.std.specs.BTreeMap.{is_at}
+use Rattle.std.specs.BTreeMap.{is_at, insert_entry}
 use Rattle.std.specs.Io.KnownBytes.{IsAtEnd}
 use Rattle.base_core.specs.Causes.{Rose}
 use Rattle.disk_core.specs.Disk.{DiskState, IsSettled}
@@ -94,6 +94,10 @@ file_at path files = lookup (is_path path) files
 -- the files but the one at this path
 abbrev pub files_without : List ℕ → List (List ℕ × List ℕ) → List (List ℕ × List ℕ)
 files_without path files = remove_entry (is_path path) files
+
+-- the files with these bytes at this path, in place of those of a file that is there
+abbrev pub files_with : List ℕ → List ℕ → List (List ℕ × List ℕ) → List (List ℕ × List ℕ)
+files_with path bytes files = insert_entry (slice_cmp nat_cmp) files path bytes
 
 -- the bytes at this path, none where there is no file
 abbrev pub bytes_of : Option (List ℕ) → List ℕ

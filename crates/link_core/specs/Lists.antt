@@ -32,6 +32,11 @@ accept_calls l = l.calls
 abbrev pub listener_state : {L : Type 0} → (L → List ℕ) → MemoryListener L → ListenerState
 listener_state bytes l = record { waiting = Some (map bytes (links_of l)); faults = l.faults }
 
+-- what the first of some links is to do once it is accepted: its scripts before the first call
+abbrev pub accepted_scripts : {L : Type 0} → (L → Scripts) → List L → Option Scripts
+accepted_scripts scripts [] = None
+accepted_scripts scripts (first ∷ others) = Some (restarted_both (scripts first))
+
 -- its next call is to fail
 abbrev pub AcceptFails : {L : Type 0} → MemoryListener L → Type 0
 AcceptFails l =
@@ -90,6 +95,54 @@ handed_by host = record {
   links = host.handed.links;
   listeners = host.handed.listeners;
 }
+
+-- what a host in memory has to hand out
+pub record Stock (L : Type 0) : Type 0 where
+  pub files : List (List ℕ × List ℕ)
+  pub consoles : List L
+  pub peers : List L
+  pub listeners : List (MemoryListener L)
+  pub times : List ℕ
+
+abbrev pub stock_of : {L : Type 0} → MemoryHost L → Stock L
+stock_of host = record {
+  files = files_of host;
+  consoles = consoles_of host;
+  peers = peers_of host;
+  listeners = listeners_of host;
+  times = host_times host;
+}
+
+-- the stock with others of one kind
+abbrev pub stock_with_files : {L : Type 0} → List (List ℕ × List ℕ) → Stock L → Stock L
+stock_with_files files s =
+    record { files = files; consoles = s.consoles; peers = s.peers; listeners = s.listeners; times = s.times }
+
+abbrev pub stock_with_consoles : {L : Type 0} → List L → Stock L → Stock L
+stock_with_consoles links s =
+    record { files = s.files; consoles = links; peers = s.peers; listeners = s.listeners; times = s.times }
+
+abbrev pub stock_with_peers : {L : Type 0} → List L → Stock L → Stock L
+stock_with_peers links s =
+    record { files = s.files; consoles = s.consoles; peers = links; listeners = s.listeners; times = s.times }
+
+abbrev pub stock_with_listeners : {L : Type 0} → List (MemoryListener L) → Stock L → Stock L
+stock_with_listeners ls s =
+    record { files = s.files; consoles = s.consoles; peers = s.peers; listeners = ls; times = s.times }
+
+abbrev pub stock_with_times : {L : Type 0} → List ℕ → Stock L → Stock L
+stock_with_times times s =
+    record { files = s.files; consoles = s.consoles; peers = s.peers; listeners = s.listeners; times = times }
+
+-- a list without its first
+abbrev pub rest_of : {T : Type 0} → List T → List T
+rest_of [] = []
+rest_of (first ∷ others) = others
+
+-- the stock after a call that hands something out exactly if it returns Ok
+abbrev pub UsesStock : {L T E : Type 0} → Stock L → MemoryHost L → MemoryHost L → Result T E → Type 0
+UsesStock used old new result =
+    MatchResult result (λ _. stock_of new ≡ used) (λ _. stock_of new ≡ stock_of old)
 
 -- the bytes of the links of a listener
 abbrev pub bytes_waiting : {L : Type 0} → (L → List ℕ) → MemoryListener L → List (List ℕ)
@@ -220,14 +273,10 @@ abbrev pub IsFirstListener : {L : Type 0} → List (MemoryListener L) → NextMa
 IsFirstListener [] marks given = ⊥
 IsFirstListener (first ∷ others) marks given = IsListenerOf marks first given
 
--- what no call of a host changes but `clock`: the calls that fail, and the times of the clock
-pub record KeepsPlan {L : Type 0} (old new : MemoryHost L) : Type 0 where
-  pub failing : host_failing new ≡ host_failing old
-  pub times : host_times new ≡ host_times old
-
 -- nothing of a host has changed but what it holds
 pub record SameCounts {L : Type 0} (old new : MemoryHost L) : Type 0 where
   pub calls : calls_of new ≡ calls_of old
   pub handed : handed_by new ≡ handed_by old
+  pub faults : new.faults ≡ old.faults
   pub failing : host_failing new ≡ host_failing old
   pub marks : marks_of new ≡ marks_of old

@@ -1,7 +1,7 @@
 //! The files of a host in memory, by their paths.
 ghost use Rattle.std.specs.Prelude.{◌≡◌, [], Some, option_map, OnOk, OnErr};
 ghost use Rattle.std.specs.Option.{option_copied};
-ghost use Rattle.link_core.specs.Host.{file_at, files_without};
+ghost use Rattle.link_core.specs.Host.{file_at, files_with, files_without};
 
 use base_core::Bytes;
 use std::alloc::{AllocError, Global};
@@ -38,6 +38,7 @@ impl Files {
     // Puts a file at the path, in place of one that is there.
     pub(crate) fn put(&mut self, path: &str, bytes: Bytes) -> Result<(), AllocError>
         ensures ok { OnOk result (file_at path.now self.new ≡ Some bytes) }
+        ensures files { OnOk result (self.new ≡ files_with path.now bytes self.old) }
         ensures err { OnErr result (self.new ≡ self.old) }
     {
         let path = String::from_str(self.alloc, path)?;

@@ -1,7 +1,7 @@
 //! A host over objects in memory.
 ghost use Rattle.std.specs.Prelude.{◌≡◌, ◌↔◌, ◌++◌, ◌⊎◌, ◌≤◌, [], ◌∷◌, Some, take, length, IfOk, OnOk, OnErr, IsTrue, IsErr, IsErrOf, Contains, slice_get};
 ghost use Rattle.disk_core.specs.Memory.{failing_of, state_of as disk_state};
-ghost use Rattle.link_core.specs.Host.{IsDiskOf, bytes_of, file_at};
+ghost use Rattle.link_core.specs.Host.{IsDiskOf, bytes_of, file_at, files_with, files_without};
 
 use crate::files::Files;
 use crate::{Host, HostFault, MemoryClock, MemoryForm, MemoryLink, MemoryListener};
@@ -153,7 +153,7 @@ fn is_marked(failing: &[Mark], kind: CallKind, nth: u64) -> bool
 }
 
 impl<L: MemoryForm + Drop> MemoryHost<L> {
-    ghost use Rattle.link_core.specs.Lists.{files_of, consoles_of, peers_of, listeners_of, host_times, host_state, host_failing, marks_of, calls_of, handed_by, empty_state, no_marks, AddsMark, SameCounts};
+    ghost use Rattle.link_core.specs.Lists.{files_of, consoles_of, peers_of, listeners_of, host_times, host_state, host_failing, marks_of, calls_of, handed_by, empty_state, no_marks, AddsMark, SameCounts, stock_of, stock_with_files, stock_with_consoles, stock_with_peers, stock_with_listeners, stock_with_times};
 
     /// A host with nothing to hand out, of which no call is marked to fail. Its clock always gives 0.
     pub fn new(alloc: Global) -> MemoryHost<L>
@@ -196,7 +196,9 @@ impl<L: MemoryForm + Drop> MemoryHost<L> {
     /// Adds a file, in place of one that is at the path.
     pub fn add_file(&mut self, path: &str, bytes: Bytes) -> Result<(), AllocError>
         ensures added { OnOk result (file_at path.now (files_of self.new) ≡ Some bytes) }
+        ensures files { OnOk result (files_of self.new ≡ files_with path.now bytes (files_of self.old)) }
         ensures unchanged { OnErr result (files_of self.new ≡ files_of self.old) }
+        ensures others { stock_of self.new ≡ stock_with_files (files_of self.new) (stock_of self.old) }
         ensures counts { SameCounts self.old self.new }
     {
         self.files.put(path, bytes)
@@ -206,6 +208,7 @@ impl<L: MemoryForm + Drop> MemoryHost<L> {
     pub fn add_console(&mut self, link: L) -> Result<(), AllocError>
         ensures added { OnOk result (consoles_of self.new ≡ consoles_of self.old ++ link ∷ []) }
         ensures unchanged { OnErr result (consoles_of self.new ≡ consoles_of self.old) }
+        ensures others { stock_of self.new ≡ stock_with_consoles (consoles_of self.new) (stock_of self.old) }
         ensures counts { SameCounts self.old self.new }
     {
         self.consoles.push_back(link)?;
@@ -216,6 +219,7 @@ impl<L: MemoryForm + Drop> MemoryHost<L> {
     pub fn add_peer(&mut self, link: L) -> Result<(), AllocError>
         ensures added { OnOk result (peers_of self.new ≡ peers_of self.old ++ link ∷ []) }
         ensures unchanged { OnErr result (peers_of self.new ≡ peers_of self.old) }
+        ensures others { stock_of self.new ≡ stock_with_peers (peers_of self.new) (stock_of self.old) }
         ensures counts { SameCounts self.old self.new }
     {
         self.peers.push_back(link)?;
@@ -226,6 +230,7 @@ impl<L: MemoryForm + Drop> MemoryHost<L> {
     pub fn add_listener(&mut self, listener: MemoryListener<L>) -> Result<(), AllocError>
         ensures added { OnOk result (listeners_of self.new ≡ listeners_of self.old ++ listener ∷ []) }
         ensures unchanged { OnErr result (listeners_of self.new ≡ listeners_of self.old) }
+        ensures others { stock_of self.new ≡ stock_with_listeners (listeners_of self.new) (stock_of self.old) }
         ensures counts { SameCounts self.old self.new }
     {
         self.listeners.push_back(listener)?;
@@ -234,8 +239,8 @@ impl<L: MemoryForm + Drop> MemoryHost<L> {
 
     /// Has the next clock give these times.
     pub fn set_times(&mut self, times: Vec<u64>)
-        ensures times { host_times self.new ≡ times.items }
-        ensures state { host_state L.bytes self.new ≡ host_state L.bytes self.old }
+        ensures stock { stock_of self.new ≡ stock_with_times times.items (stock_of self.old) }
+        ensures counts { SameCounts self.old self.new }
     {
         self.times = times;
     }
@@ -245,7 +250,9 @@ impl<L: MemoryForm + Drop> MemoryHost<L> {
     /// next, and of that object alone.
     pub fn fail(&mut self, kind: CallKind, nth: u64) -> Result<(), AllocError>
         ensures marked { OnOk result (AddsMark kind nth self.old self.new) }
+        ensures unchanged { OnErr result (SameCounts self.old self.new) }
         ensures state { host_state L.bytes self.new ≡ host_state L.bytes self.old }
+        ensures stock { stock_of self.new ≡ stock_of self.old }
     {
         match kind {
             CallKind::Length => self.marks.disk.push(Failing {
@@ -290,7 +297,7 @@ impl<L: MemoryForm + Drop> MemoryHost<L> {
 impl<L: MemoryForm + Drop> Host for MemoryHost<L> {
     ghost use Rattle.link_core.specs.Host.{HandsOutDisk, HandsOutListener, HandsOutPeer, HandsOutConsole, CopiesFile};
     ghost use Rattle.link_core.specs.Memory.{times_of, count_of};
-    ghost use Rattle.link_core.specs.Lists.{consoles_of, peers_of, listeners_of, listener_state, host_times, host_state, marks_of, given_scripts, without_link_marks, without_disk_marks, without_accept_marks, UsesMarks, DiskFails, ListenFails, DialFails, ConsoleFails, FileFails, IsFirstListener, KeepsPlan};
+    ghost use Rattle.link_core.specs.Lists.{consoles_of, peers_of, listeners_of, listener_state, host_times, host_state, marks_of, given_scripts, without_link_marks, without_disk_marks, without_accept_marks, UsesMarks, DiskFails, ListenFails, DialFails, ConsoleFails, FileFails, IsFirstListener, files_of, host_failing, rest_of, stock_of, stock_with_files, stock_with_consoles, stock_with_peers, stock_with_listeners, stock_with_times, UsesStock};
 
     type Disk = MemoryDisk;
 
@@ -308,7 +315,9 @@ impl<L: MemoryForm + Drop> Host for MemoryHost<L> {
         ensures listed { IsErrOf result HostFault.Failed ↔ DiskFails self.old }
         ensures disk { IfOk result (λ disk. failing_of disk ≡ (marks_of self.old).disk) }
         ensures marks { UsesMarks without_disk_marks (marks_of self.old) (marks_of self.new) result }
-        ensures plan { KeepsPlan self.old self.new }
+        ensures stock { UsesStock (stock_with_files (files_without path.now (files_of self.old)) (stock_of self.old))
+            self.old self.new result }
+        ensures failing { host_failing self.new ≡ host_failing self.old }
     {
         self.calls.disk = counted(self.calls.disk);
         let marked = is_marked(&self.failing, CallKind::DiskOpen, self.calls.disk);
@@ -331,7 +340,9 @@ impl<L: MemoryForm + Drop> Host for MemoryHost<L> {
         ensures listed { IsErr result ↔ ListenFails self.old }
         ensures listener { IfOk result (IsFirstListener (listeners_of self.old) (marks_of self.old)) }
         ensures marks { UsesMarks without_accept_marks (marks_of self.old) (marks_of self.new) result }
-        ensures plan { KeepsPlan self.old self.new }
+        ensures stock { UsesStock (stock_with_listeners (rest_of (listeners_of self.old)) (stock_of self.old))
+            self.old self.new result }
+        ensures failing { host_failing self.new ≡ host_failing self.old }
     {
         self.calls.listen = counted(self.calls.listen);
         let marked = is_marked(&self.failing, CallKind::Listen, self.calls.listen);
@@ -354,7 +365,9 @@ impl<L: MemoryForm + Drop> Host for MemoryHost<L> {
         ensures link { IfOk result (λ link.
             given_scripts L.scripts (peers_of self.old) (marks_of self.old) ≡ Some (L.scripts link)) }
         ensures marks { UsesMarks without_link_marks (marks_of self.old) (marks_of self.new) result }
-        ensures plan { KeepsPlan self.old self.new }
+        ensures stock { UsesStock (stock_with_peers (rest_of (peers_of self.old)) (stock_of self.old)) self.old
+            self.new result }
+        ensures failing { host_failing self.new ≡ host_failing self.old }
     {
         self.calls.dial = counted(self.calls.dial);
         let marked = is_marked(&self.failing, CallKind::Dial, self.calls.dial);
@@ -376,7 +389,9 @@ impl<L: MemoryForm + Drop> Host for MemoryHost<L> {
         ensures link { IfOk result (λ link.
             given_scripts L.scripts (consoles_of self.old) (marks_of self.old) ≡ Some (L.scripts link)) }
         ensures marks { UsesMarks without_link_marks (marks_of self.old) (marks_of self.new) result }
-        ensures plan { KeepsPlan self.old self.new }
+        ensures stock { UsesStock (stock_with_consoles (rest_of (consoles_of self.old)) (stock_of self.old)) self.old
+            self.new result }
+        ensures failing { host_failing self.new ≡ host_failing self.old }
     {
         self.calls.console = counted(self.calls.console);
         let marked = is_marked(&self.failing, CallKind::Console, self.calls.console);
@@ -396,7 +411,8 @@ impl<L: MemoryForm + Drop> Host for MemoryHost<L> {
         ensures host { CopiesFile path.now limit (host_state L.bytes self.old) (host_state L.bytes self.new) result }
         ensures listed { IsErrOf result HostFault.Failed ↔ FileFails path.now self.old }
         ensures marks { marks_of self.new ≡ marks_of self.old }
-        ensures plan { KeepsPlan self.old self.new }
+        ensures stock { stock_of self.new ≡ stock_of self.old }
+        ensures failing { host_failing self.new ≡ host_failing self.old }
     {
         self.calls.file = counted(self.calls.file);
         let marked = is_marked(&self.failing, CallKind::File, self.calls.file);
@@ -415,7 +431,9 @@ impl<L: MemoryForm + Drop> Host for MemoryHost<L> {
         ensures unused { count_of result ≡ 0 }
         ensures times { times_of result ≡ host_times self.old }
         ensures state { host_state L.bytes self.new ≡ host_state L.bytes self.old }
-        ensures marks { (marks_of self.new ≡ marks_of self.old) × (host_times self.new ≡ []) }
+        ensures stock { stock_of self.new ≡ stock_with_times [] (stock_of self.old) }
+        ensures marks { marks_of self.new ≡ marks_of self.old }
+        ensures failing { host_failing self.new ≡ host_failing self.old }
     {
         MemoryClock::new(mem::replace(&mut self.times, Vec::new(self.alloc)))
     }

@@ -143,8 +143,9 @@ impl Link for MemoryLink {
 
     fn close(&mut self)
         ensures link { Closes (state_of self.old) (state_of self.new) }
-        ensures reads { reads_of self.new ≡ reads_of self.old }
-        ensures writes { writes_of self.new ≡ writes_of self.old }
+        ensures faults { (state_of self.new).faults ≡ (state_of self.old).faults }
+        ensures scripts { (reads_of self.new ≡ reads_of self.old) × (writes_of self.new ≡ writes_of self.old) }
+        ensures starved { starved_of self.new ≡ starved_of self.old }
     {
         self.closed = true;
     }

@@ -1,5 +1,5 @@
 //! A listener over links in memory.
-ghost use Rattle.std.specs.Prelude.{◌≡◌, ◌↔◌, ◌∷◌, ◌++◌, [], Contains, IsErr, OnOk, OnErr};
+ghost use Rattle.std.specs.Prelude.{◌≡◌, ◌↔◌, ◌∷◌, ◌++◌, [], Contains, IsErr, IfOk, OnOk, OnErr, MatchResult, option_map};
 
 use crate::script::is_listed;
 use crate::{Listener, MemoryForm};
@@ -26,7 +26,7 @@ impl<L: MemoryForm + Drop> MemoryListener<L> {
     /// A listener with no links. The calls of the listed numbers, from 1, fail.
     pub fn new(alloc: Global, failing: Vec<u64>) -> MemoryListener<L>
         ensures none { links_of result ≡ [] }
-        ensures failing { accepts_failing result ≡ failing.items }
+        ensures failing { (accepts_failing result ≡ failing.items) × (accepts_marked result ≡ []) }
         ensures start { (accept_calls result ≡ 0) × ((listener_state L.bytes result).faults ≡ 0) }
     {
         MemoryListener {
@@ -43,6 +43,7 @@ impl<L: MemoryForm + Drop> MemoryListener<L> {
         ensures added { OnOk result (links_of self.new ≡ links_of self.old ++ link ∷ []) }
         ensures unchanged { OnErr result (links_of self.new ≡ links_of self.old) }
         ensures failing { accepts_failing self.new ≡ accepts_failing self.old }
+        ensures marked { accepts_marked self.new ≡ accepts_marked self.old }
         ensures calls { accept_calls self.new ≡ accept_calls self.old }
         ensures faults { (listener_state L.bytes self.new).faults ≡ (listener_state L.bytes self.old).faults }
     {
@@ -69,13 +70,17 @@ impl<L: MemoryForm + Drop> Listener for MemoryListener<L> {
 
     ghost use Rattle.link_core.specs.Listener.{Accepts};
     ghost use Rattle.link_core.specs.Host.{one_more};
-    ghost use Rattle.link_core.specs.Lists.{listener_state, accepts_failing, accepts_marked, accept_calls, AcceptFails};
+    ghost use Rattle.link_core.specs.Lists.{links_of, rest_of, listener_state, accepted_scripts, accepts_failing, accepts_marked, accept_calls, AcceptFails};
 
     ghost state = { listener_state L.bytes };
 
     fn accept(&mut self) -> Result<Option<L>, Failed>
         ensures listener { Accepts L.state (listener_state L.bytes self.old) (listener_state L.bytes self.new) result }
         ensures listed { IsErr result ↔ AcceptFails self.old }
+        ensures link { IfOk result (λ found.
+            option_map L.scripts found ≡ accepted_scripts L.scripts (links_of self.old)) }
+        ensures others { MatchResult result (λ _. links_of self.new ≡ rest_of (links_of self.old))
+            (λ _. links_of self.new ≡ links_of self.old) }
         ensures calls { accept_calls self.new ≡ one_more (accept_calls self.old) }
         ensures failing { accepts_failing self.new ≡ accepts_failing self.old }
         ensures marked { accepts_marked self.new ≡ accepts_marked self.old }

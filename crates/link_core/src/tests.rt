@@ -4,6 +4,7 @@ use base_core::Bytes;
 use disk_core::Disk;
 use std::alloc::{AllocError, Global};
 use std::test::Fail;
+use std::thread::join_mut;
 
 // A script with these lengths that fails these calls.
 fn script(alloc: Global, lengths: &[usize], failing: &[u64]) -> Result<Script, AllocError> {
@@ -172,5 +173,27 @@ fn a_held_read_waits_for_the_other_link(rt: HostRuntime) -> Result<(), Fail> {
     assert_eq!(rt; first_read(&mut plain), Ok(b'p'));
     plain.close();
     assert!(rt; plain.link().is_closed());
+    Ok(())
+}
+
+#[test]
+fn a_read_is_held_until_another_thread_wrote(rt: HostRuntime) -> Result<(), Fail> {
+    let alloc = rt.alloc();
+    let (mut held, mut other) = GateLink::pair(
+        alloc,
+        MemoryLink::of(alloc, b"h")?,
+        MemoryLink::of(alloc, b"o")?,
+    )?;
+    // Where no thread can be had, the second runs first.
+    let (read, wrote) = join_mut(
+        &rt,
+        &mut || first_read(&mut held),
+        &mut || other.write(b"x"),
+    );
+    assert_eq!(rt; (read, wrote), (Ok(b'h'), Ok(1)));
+    assert_eq!(rt;
+        (held.link().faults(), other.link().written()),
+        (0, b"x".as_slice())
+    );
     Ok(())
 }

@@ -1,18 +1,23 @@
 //! A file as a disk.
-ghost use Rattle.std.specs.Prelude.{◌≡◌, None, ℕ, List};
+ghost use Rattle.std.specs.Prelude.{◌≡◌, true, None, ℕ, List, IfOk, IsErr, OnErr};
 ghost use Rattle.repo_cli.specs.Real.{count_of, HasNoFault, real_disk};
 
 use crate::faults::{Faults, read_again};
+use crate::opening::open_or_make;
 use base_core::Failed;
 use disk_core::Disk;
-use std::fs::File;
+use std::fs::{File, Files};
 use std::io::{Error, Read, Result as IoResult};
 use std::os::unix::fs::FileExt;
 
-/// A file. Contracts see nothing of what it holds; it counts its faults.
+/// A file that nothing else has open as a disk. Contracts see nothing of what it holds; it counts its faults.
+///
+/// Once a sync has failed, every later one fails: the system may have dropped what it couldn't write, and a second sync
+/// would then succeed over it.
 #[derive(Drop)]
 pub struct FileDisk {
     file: File,
+    unsynced: bool,
     faults: Faults,
 }
 
@@ -30,14 +35,15 @@ impl Read for At<'_> {
 }
 
 impl FileDisk {
-    /// An open file, before its first call.
-    pub fn new(file: File) -> FileDisk
-        ensures { HasNoFault result.faults }
+    /// Opens the file at the path, or makes an empty one there. What it holds is durable then.
+    pub fn open<R: Files<File = File>>(rt: &R, path: &str) -> IoResult<FileDisk>
+        ensures { IfOk result (λ disk. HasNoFault disk.faults) }
     {
-        FileDisk {
-            file,
+        Ok(FileDisk {
+            file: open_or_make(rt, path)?,
+            unsynced: false,
             faults: Faults::new(),
-        }
+        })
     }
 
     /// What the system said of the last fault.
@@ -48,8 +54,10 @@ impl FileDisk {
 
 impl Disk for FileDisk {
     ghost use Rattle.std.proofs.lemmas.Option.{none-some};
+    ghost use Rattle.disk_core.specs.Disk.{MakesDurable};
+    ghost use Rattle.repo_cli.specs.Disk.{disk_state, HasFailedSync};
 
-    ghost state = { λ disk. real_disk (count_of disk.faults) };
+    ghost state = { disk_state };
 
     ghost reads_as_image = { λ disk file is. none-some file is };
 
@@ -78,10 +86,20 @@ impl Disk for FileDisk {
         }
     }
 
-    fn sync(&mut self) -> Result<(), Failed> {
+    fn sync(&mut self) -> Result<(), Failed>
+        ensures disk { MakesDurable (disk_state self.old) (disk_state self.new) result }
+        ensures noted { OnErr result (HasFailedSync self.new) }
+        ensures refused { HasFailedSync self.old → IsErr result }
+    {
+        if self.unsynced {
+            return Err(self.faults.count_again());
+        }
         match self.file.sync_data() {
             Ok(()) => Ok(()),
-            Err(error) => Err(self.faults.count(error)),
+            Err(error) => {
+                self.unsynced = true;
+                Err(self.faults.count(error))
+            }
         }
     }
 

@@ -1,10 +1,12 @@
 //! The faults of an object of the outside, and calls that a signal interrupted.
-ghost use Rattle.std.specs.Prelude.{◌≡◌, ◌≤◌, ◌<◌, ◌^◌};
+ghost use Rattle.std.specs.Prelude.{◌≡◌, ◌↔◌, ◌≤◌, ◌<◌, ◌^◌};
 ghost use Rattle.std.specs.Io.{ReadsAtMost, WritesAtMost};
+ghost use Rattle.std.specs.IoError.{error_kind};
 ghost use Rattle.base_core.specs.Causes.{Counts};
 ghost use Rattle.link_core.specs.Link.{Takes as TakesSome};
 
 use base_core::{Failed, counted};
+use link_core::HostFault;
 use std::io::{Error, ErrorKind, Read, Result as IoResult, Write};
 
 /// How often the calls of an object have failed, and what the system said of the last fault.
@@ -32,9 +34,30 @@ impl Faults {
         ensures counted { Counts (count_of self.old) (count_of self.new) }
         ensures later { count_of self.old ≤ count_of self.new }
     {
-        self.count = counted(self.count);
         self.last = Some(error);
+        self.count_again()
+    }
+
+    /// Counts a fault that comes of an earlier one, of which the system's words stay.
+    pub fn count_again(&mut self) -> Failed
+        ensures counted { Counts (count_of self.old) (count_of self.new) }
+        ensures later { count_of self.old ≤ count_of self.new }
+    {
+        self.count = counted(self.count);
         Failed
+    }
+
+    /// What a host returns for this error: out of memory is no fault, and any other error is counted.
+    pub fn count_of_host(&mut self, error: Error) -> HostFault
+        ensures memory { result ≡ HostFault.Memory ↔ error_kind error ≡ ErrorKind.OutOfMemory }
+        ensures counted { result ≡ HostFault.Failed → Counts (count_of self.old) (count_of self.new) }
+        ensures later { count_of self.old ≤ count_of self.new }
+    {
+        if error.kind() == ErrorKind::OutOfMemory {
+            return HostFault::Memory;
+        }
+        self.count(error);
+        HostFault::Failed
     }
 
     /// How many there were, or 2^64 - 1 if there were more.

@@ -1,5 +1,5 @@
 //! The process as a host.
-ghost use Rattle.std.specs.Prelude.{◌≤◌, length, None, IfOk};
+ghost use Rattle.std.specs.Prelude.{◌≡◌, ◌≤◌, length, None, IfOk};
 ghost use Rattle.repo_cli.specs.Real.{count_of};
 
 use crate::clock::RealClock;
@@ -11,9 +11,12 @@ use base_core::{Bytes, counted};
 use link_core::{Host, HostFault};
 use std::alloc::Global;
 use std::fs::{File, Files, OpenOptions};
-use std::io::{Error, ErrorKind, Read, Result as IoResult, Stdin, Stdout};
+use std::io::{Error, Read, Result as IoResult, Stdin, Stdout};
 use std::net::{Net, TcpListener, TcpStream};
 use std::time::Clock as Time;
+
+// What is said once a host has handed out as much as it can count.
+const MOST_HANDED: &str = "2^64 - 1 objects of a kind were handed out";
 
 // How often each call was called.
 #[derive(Drop)]
@@ -45,22 +48,6 @@ pub struct RealHost<'a, R> {
     faults: Faults,
 }
 
-// Opens the file for reading and writing, or makes an empty one, whose name is durable then: the folder is synced.
-fn open_or_make<R: Files<File = File>>(rt: &R, path: &str) -> IoResult<File> {
-    let mut options = OpenOptions::new();
-    options.read(true).write(true).create(true);
-    let file = options.open(rt, path)?;
-    let folder = match path.rsplit_once('/') {
-        Some(("", _)) => "/",
-        Some((folder, _)) => folder,
-        None => ".",
-    };
-    let mut reading = OpenOptions::new();
-    reading.read(true);
-    reading.open(rt, folder)?.sync_all()?;
-    Ok(file)
-}
-
 // The first bytes of the file, as many as the limit, or all.
 fn read_front<R: Files<File = File>>(
     rt: &R,
@@ -82,7 +69,12 @@ fn read_front<R: Files<File = File>>(
 
 impl<'a, R> RealHost<'a, R> {
     /// The process, before the first call.
-    pub fn new(rt: &'a R, alloc: Global, stdin: Stdin, stdout: Stdout) -> RealHost<'a, R> {
+    pub fn new(rt: &'a R, alloc: Global, stdin: Stdin, stdout: Stdout) -> RealHost<'a, R>
+        ensures faults { count_of result.faults ≡ 0 }
+        ensures calls { (result.calls.disk ≡ 0) × (result.calls.listen ≡ 0) × (result.calls.dial ≡ 0)
+            × (result.calls.console ≡ 0) × (result.calls.file ≡ 0) }
+        ensures handed { (result.handed.disks ≡ 0) × (result.handed.links ≡ 0) × (result.handed.listeners ≡ 0) }
+    {
         RealHost {
             rt,
             alloc,
@@ -138,25 +130,22 @@ where
     fn disk(&mut self, path: &str) -> Result<FileDisk, HostFault> {
         self.calls.disk = counted(self.calls.disk);
         if self.handed.disks == u64::MAX {
-            self.faults.count(Error::from(ErrorKind::Other));
+            self.faults.count(Error::other(MOST_HANDED));
             return Err(HostFault::Failed);
         }
-        match open_or_make(self.rt, path) {
-            Ok(file) => {
+        match FileDisk::open(self.rt, path) {
+            Ok(disk) => {
                 self.handed.disks += 1;
-                Ok(FileDisk::new(file))
+                Ok(disk)
             }
-            Err(error) => {
-                self.faults.count(error);
-                Err(HostFault::Failed)
-            }
+            Err(error) => Err(self.faults.count_of_host(error)),
         }
     }
 
     fn listen(&mut self, address: &str, port: u16) -> Result<TcpListen, HostFault> {
         self.calls.listen = counted(self.calls.listen);
         if self.handed.listeners == u64::MAX {
-            self.faults.count(Error::from(ErrorKind::Other));
+            self.faults.count(Error::other(MOST_HANDED));
             return Err(HostFault::Failed);
         }
         match TcpListener::bind(self.rt, (address, port)) {
@@ -164,17 +153,14 @@ where
                 self.handed.listeners += 1;
                 Ok(TcpListen::new(listener))
             }
-            Err(error) => {
-                self.faults.count(error);
-                Err(HostFault::Failed)
-            }
+            Err(error) => Err(self.faults.count_of_host(error)),
         }
     }
 
     fn dial(&mut self, address: &str, port: u16) -> Result<RealLink, HostFault> {
         self.calls.dial = counted(self.calls.dial);
         if self.handed.links == u64::MAX {
-            self.faults.count(Error::from(ErrorKind::Other));
+            self.faults.count(Error::other(MOST_HANDED));
             return Err(HostFault::Failed);
         }
         match TcpStream::connect(self.rt, (address, port)).and_then(RealLink::socket) {
@@ -182,17 +168,14 @@ where
                 self.handed.links += 1;
                 Ok(link)
             }
-            Err(error) => {
-                self.faults.count(error);
-                Err(HostFault::Failed)
-            }
+            Err(error) => Err(self.faults.count_of_host(error)),
         }
     }
 
     fn console(&mut self) -> Result<RealLink, HostFault> {
         self.calls.console = counted(self.calls.console);
         if self.handed.links == u64::MAX {
-            self.faults.count(Error::from(ErrorKind::Other));
+            self.faults.count(Error::other(MOST_HANDED));
             return Err(HostFault::Failed);
         }
         self.handed.links += 1;
@@ -203,11 +186,7 @@ where
         self.calls.file = counted(self.calls.file);
         match read_front(self.rt, self.alloc, path, limit) {
             Ok(bytes) => Ok(Bytes::from(bytes)),
-            Err(error) if error.kind() == ErrorKind::OutOfMemory => Err(HostFault::Memory),
-            Err(error) => {
-                self.faults.count(error);
-                Err(HostFault::Failed)
-            }
+            Err(error) => Err(self.faults.count_of_host(error)),
         }
     }
 

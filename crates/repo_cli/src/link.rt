@@ -6,7 +6,7 @@ use crate::faults::{Faults, read_again, write_again};
 use base_core::Failed;
 use link_core::Link;
 use std::io::{Error, ErrorKind, Result as IoResult, Stdin, Stdout};
-use std::net::TcpStream;
+use std::net::{Shutdown, TcpStream};
 use std::time::Duration;
 
 /// The reads that a link can give bytes by.
@@ -14,6 +14,15 @@ const READS: u64 = 1 << 63;
 
 /// How long a socket may give or take no byte before that is a fault of its link, in seconds.
 pub const SILENCE: u64 = 300;
+
+/// How long a socket that is being closed waits for each piece that its peer still sends, in seconds.
+const LAST_SILENCE: u64 = 1;
+
+/// How many such pieces it reads at most.
+const LAST_PIECES: u64 = 256;
+
+/// How many bytes each of them has at most.
+const LAST_LENGTH: usize = 65_536;
 
 // What a link reads from and writes to.
 #[derive(Drop)]
@@ -25,7 +34,8 @@ enum Stream {
 
 /// Standard input and output, or a socket, as one link. Contracts see nothing of what it holds; it counts its faults.
 ///
-/// The console waits without a limit. A socket that gives or takes no byte for five minutes has a fault.
+/// The console waits without a limit. A socket that gives or takes no byte for five minutes has a fault. Closing a
+/// socket ends what it writes and reads what its peer still sends, within bounds, so that the last reply arrives.
 #[derive(Drop)]
 pub struct RealLink {
     stream: Stream,
@@ -33,6 +43,30 @@ pub struct RealLink {
     reads: u64,
     faults: Faults,
     ghost few: { reads ≤ 2 ^ 63 },
+}
+
+// The error of a socket, with words of its own where nothing came or went for five minutes.
+fn socket_error(error: Error) -> Error {
+    if error.kind() == ErrorKind::WouldBlock {
+        return Error::new(ErrorKind::TimedOut, "no byte for five minutes");
+    }
+    error
+}
+
+// Ends what is written and reads the rest of what comes. The system answers bytes that come for a socket that is gone
+// by a reset, which would take from the peer the reply that it has yet to read.
+fn drain(stream: &mut TcpStream) {
+    let silence = Some(Duration::from_secs(LAST_SILENCE));
+    if stream.shutdown(Shutdown::Write).is_err() || stream.set_read_timeout(silence).is_err() {
+        return;
+    }
+    let mut buffer = [0; LAST_LENGTH];
+    for _ in 0..LAST_PIECES {
+        match read_again(stream, &mut buffer) {
+            Ok(0) | Err(_) => return,
+            Ok(_) => {}
+        }
+    }
 }
 
 impl RealLink {
@@ -84,11 +118,11 @@ impl Link for RealLink {
 
     fn read(&mut self, into: &mut [u8]) -> Result<usize, Failed> {
         if self.reads == 0 {
-            return Err(self.faults.count(Error::from(ErrorKind::Other)));
+            return Err(self.faults.count(Error::other("2^63 reads gave bytes")));
         }
         let read = match &mut self.stream {
             Stream::Console(stdin, _) => read_again(stdin, into),
-            Stream::Tcp(stream) => read_again(stream, into),
+            Stream::Tcp(stream) => read_again(stream, into).map_err(socket_error),
             Stream::Closed => Err(Error::from(ErrorKind::NotConnected)),
         };
         match read {
@@ -104,7 +138,7 @@ impl Link for RealLink {
     fn write(&mut self, piece: &[u8]) -> Result<usize, Failed> {
         let written = match &mut self.stream {
             Stream::Console(_, stdout) => write_again(stdout, piece),
-            Stream::Tcp(stream) => write_again(stream, piece),
+            Stream::Tcp(stream) => write_again(stream, piece).map_err(socket_error),
             Stream::Closed => Err(Error::from(ErrorKind::NotConnected)),
         };
         match written {
@@ -114,6 +148,9 @@ impl Link for RealLink {
     }
 
     fn close(&mut self) {
+        if let Stream::Tcp(stream) = &mut self.stream {
+            drain(stream);
+        }
         self.stream = Stream::Closed;
         self.closed = true;
     }

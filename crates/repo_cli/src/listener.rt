@@ -9,11 +9,33 @@ use link_core::Listener;
 use std::io::{Error, ErrorKind, Result as IoResult};
 use std::net::TcpListener;
 
+/// The numbers of the system's errors that have no kind and are those of one connection: its network or its host is
+/// gone, or its peer broke the protocol.
+const OF_ONE: [i32; 4] = [64, 71, 92, 112];
+
 /// A socket that listens. Contracts see nothing of who connects; it counts its faults.
 #[derive(Drop)]
 pub struct TcpListen {
     listener: TcpListener,
     faults: Faults,
+}
+
+/// Whether an error of accepting is that of one connection, which is gone by now; the next one may be sound.
+pub fn is_of_one(error: &Error) -> bool {
+    match error.kind() {
+        ErrorKind::Interrupted
+        | ErrorKind::ConnectionAborted
+        | ErrorKind::ConnectionReset
+        | ErrorKind::HostUnreachable
+        | ErrorKind::NetworkUnreachable
+        | ErrorKind::NetworkDown
+        | ErrorKind::TimedOut
+        | ErrorKind::PermissionDenied => true,
+        _ => match error.raw_os_error() {
+            Some(number) => OF_ONE.contains(&number),
+            None => false,
+        },
+    }
 }
 
 impl TcpListen {
@@ -52,9 +74,7 @@ impl Listener for TcpListen {
                         return Ok(Some(link));
                     }
                 }
-                Err(error)
-                    if error.kind() == ErrorKind::Interrupted
-                        || error.kind() == ErrorKind::ConnectionAborted => {}
+                Err(error) if is_of_one(&error) => {}
                 Err(error) => return Err(self.faults.count(error)),
             }
         }

@@ -12,6 +12,7 @@ mod host;
 mod link;
 mod listener;
 mod note;
+mod opening;
 mod sink;
 #[cfg(test)]
 mod tests;

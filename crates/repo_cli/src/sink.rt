@@ -1,24 +1,26 @@
 //! Standard output as a sink.
 ghost use Rattle.std.specs.Prelude.{None};
-ghost use Rattle.repo_cli.specs.Real.{count_of};
+ghost use Rattle.repo_cli.specs.Real.{count_of, HasNoFault};
 
 use crate::faults::{Faults, write_again};
 use base_core::Failed;
 use link_core::Sink;
-use std::io::{Error, Stdout};
+use std::io::{Error, Stdout, Write};
 
-/// Standard output. Contracts see nothing of what it takes; it counts its faults.
+/// Standard output, or another stream of the system. Contracts see nothing of what it takes; it counts its faults.
 #[derive(Drop)]
-pub struct StdSink {
-    stdout: Stdout,
+pub struct StdSink<W: Drop = Stdout> {
+    out: W,
     faults: Faults,
 }
 
-impl StdSink {
-    /// Standard output, before the first write.
-    pub fn new(stdout: Stdout) -> StdSink {
+impl<W: Write + Drop> StdSink<W> {
+    /// The stream, before the first write.
+    pub fn new(out: W) -> StdSink<W>
+        ensures { HasNoFault result.faults }
+    {
         StdSink {
-            stdout,
+            out,
             faults: Faults::new(),
         }
     }
@@ -29,11 +31,11 @@ impl StdSink {
     }
 }
 
-impl Sink for StdSink {
+impl<W: Write + Drop> Sink for StdSink<W> {
     ghost state = { λ sink. record { written = None; faults = count_of sink.faults } };
 
     fn write(&mut self, piece: &[u8]) -> Result<usize, Failed> {
-        match write_again(&mut self.stdout, piece) {
+        match write_again(&mut self.out, piece) {
             Ok(count) => Ok(count),
             Err(error) => Err(self.faults.count(error)),
         }

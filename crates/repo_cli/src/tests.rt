@@ -1,9 +1,26 @@
-//! The real objects against a real file and real sockets on loopback.
+//! The real objects against real files, a pipe, and sockets on loopback.
 use crate::clock::RealClock;
 use crate::host::RealHost;
+use crate::link::{RealLink, SILENCE};
+use crate::listener::is_of_one;
+use crate::sink::StdSink;
 use disk_core::Disk;
-use link_core::{Clock, Host, Link, Listener};
+use link_core::{Clock, Host, Link, Listener, Sink};
+use std::alloc::Global;
+use std::fs;
+use std::io::{Error, ErrorKind, pipe};
+use std::net::{TcpListener, TcpStream};
+use std::os::unix::fs::MetadataExt;
 use std::test::Fail;
+use std::time::Duration;
+
+// What the system, or the form itself, said of a fault.
+fn words_of(alloc: Global, fault: Option<&Error>) -> Result<String, Fail> {
+    match fault {
+        Some(error) => Ok(format!(in alloc; "{error}")?),
+        None => Err(Fail::from("no fault")),
+    }
+}
 
 #[test]
 fn a_file_keeps_what_is_written(rt: HostRuntime) -> Result<(), Fail> {
@@ -26,6 +43,106 @@ fn a_file_keeps_what_is_written(rt: HostRuntime) -> Result<(), Fail> {
     assert_eq!(rt; copy.get(), b"\0\0a".as_slice());
     assert!(rt; host.file("none", 3).is_err() && host.last_fault().is_some());
     assert!(rt; host.disk("none/store").is_err());
+    Ok(())
+}
+
+#[test]
+fn a_file_is_made_for_its_owner_and_is_a_disk_once(rt: HostRuntime) -> Result<(), Fail> {
+    let mut host = RealHost::new(&rt, rt.alloc(), rt.stdin(), rt.stdout());
+    let Ok(mut disk) = host.disk("once") else {
+        return Err(Fail::from("no file"));
+    };
+    assert_eq!(rt; fs::metadata(&rt, "once")?.mode() & 0o777, 0o600);
+    assert_eq!(rt; disk.write_at(0, b"abc"), Ok(()));
+    assert!(rt; host.disk("once").is_err());
+    let words = words_of(rt.alloc(), host.last_fault())?;
+    assert_eq!(rt; words.as_str(), "the file is open in another process");
+    drop(disk);
+    let Ok(mut again) = host.disk("once") else {
+        return Err(Fail::from("still locked"));
+    };
+    assert_eq!(rt; again.length(), Ok(3));
+    Ok(())
+}
+
+#[test]
+fn only_a_regular_file_is_a_disk(rt: HostRuntime) -> Result<(), Fail> {
+    let mut host = RealHost::new(&rt, rt.alloc(), rt.stdin(), rt.stdout());
+    for path in [".", "/dev/null"] {
+        assert!(rt; host.disk(path).is_err(), "{path}");
+    }
+    let words = words_of(rt.alloc(), host.last_fault())?;
+    assert_eq!(rt; words.as_str(), "it isn't a regular file");
+    Ok(())
+}
+
+#[test]
+fn a_pipe_that_is_closed_early_is_a_fault_of_its_sink(rt: HostRuntime) -> Result<(), Fail> {
+    let (reader, writer) = pipe(&rt)?;
+    let mut sink = StdSink::new(writer);
+    assert_eq!(rt; sink.write(b"abc"), Ok(3));
+    drop(reader);
+    assert!(rt; sink.write(b"abc").is_err());
+    let kind = sink.last_fault().map(|error| error.kind());
+    assert!(rt; kind == Some(ErrorKind::BrokenPipe));
+    Ok(())
+}
+
+#[test]
+fn a_silent_socket_is_a_fault_in_words_of_its_own(rt: HostRuntime) -> Result<(), Fail> {
+    let listener = TcpListener::bind(&rt, ("127.0.0.1", 0))?;
+    let stream = TcpStream::connect(&rt, listener.local_addr()?)?;
+    // Another handle of the socket has its options, so the test need not wait for five minutes.
+    let options = stream.try_clone()?;
+    let mut link = RealLink::socket(stream)?;
+    let silence = options.read_timeout()?.map(|silence| silence.as_secs());
+    assert_eq!(rt; silence, Some(SILENCE));
+    options.set_read_timeout(Some(Duration::from_millis(50)))?;
+    assert!(rt; link.read(&mut [0; 8]).is_err());
+    let words = words_of(rt.alloc(), link.last_fault())?;
+    assert_eq!(rt; words.as_str(), "no byte for five minutes");
+    Ok(())
+}
+
+#[test]
+fn a_reply_arrives_although_the_request_was_not_read_to_its_end(
+    rt: HostRuntime,
+) -> Result<(), Fail> {
+    let listener = TcpListener::bind(&rt, ("127.0.0.1", 0))?;
+    let mut near = RealLink::socket(TcpStream::connect(&rt, listener.local_addr()?)?)?;
+    let (stream, _) = listener.accept()?;
+    let mut far = RealLink::socket(stream)?;
+    assert!(rt; near.write(&[7; 10_000]).is_ok());
+    let mut buffer = [0; 8];
+    assert_eq!(rt;
+        (far.read(&mut buffer), far.write(b"reply")),
+        (Ok(8), Ok(5))
+    );
+    far.close();
+    assert_eq!(rt;
+        (near.read(&mut buffer), near.read(&mut buffer)),
+        (Ok(5), Ok(0))
+    );
+    Ok(())
+}
+
+#[test]
+fn an_error_of_one_connection_is_none_of_the_listener(rt: HostRuntime) -> Result<(), Fail> {
+    // A broken protocol, a connection given up, a host that is gone; too many files, no memory, no socket.
+    for (number, wanted) in [
+        (71, true),
+        (103, true),
+        (113, true),
+        (24, false),
+        (12, false),
+        (88, false),
+    ] {
+        assert_eq!(rt;
+            is_of_one(&Error::from_raw_os_error(number)),
+            wanted,
+            "{number}"
+        );
+    }
     Ok(())
 }
 
