@@ -20,6 +20,7 @@ mod tests;
 use crate::host::RealHost;
 use crate::note::{file_name, line_of};
 use doip_json::Str;
+use ext_ops::Extensions;
 use repo_top::{Note, Words, run_plain};
 use std::alloc::{AllocError, Global};
 use std::io::ErrorKind;
@@ -77,7 +78,7 @@ fn main(rt: HostRuntime) -> ExitCode {
         }
     };
     let mut host = RealHost::new(&rt, alloc, rt.stdin(), rt.stdout());
-    let ran = run_plain(alloc, &invocation.arguments, &mut host);
+    let ran = run_plain(alloc, &invocation.arguments, &mut host, Extensions::none(alloc));
     let program = file_name(invocation.path.get());
     match ran.note {
         Note::Host => print_note(&rt, program, ran.note, host.last_fault()),

@@ -4,6 +4,9 @@ use repo_top::{Note, SessionEnd};
 use std::fmt;
 use std::io::Error;
 
+// What follows `answer` on a command line.
+const ANSWER: &str = "SERVICE [--address A] [--port N] [--accounts FILE] [--request N]";
+
 /// The line of a note: the name of the program's file, what happened, where there is something what to do, and what the
 /// system said of the fault behind it.
 #[derive(Clone, Copy)]
@@ -82,7 +85,7 @@ impl Line<'_> {
             Note::Nothing => Ok(()),
             Note::Words => write!(
                 f,
-                "invalid command line; usage: {} answer SERVICE [--address A] [--port N] [--request N]",
+                "invalid command line; usage: {} answer {ANSWER}",
                 self.program
             ),
             Note::Host => f.write_str("standard input and output are not available"),

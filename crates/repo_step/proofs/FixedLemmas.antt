@@ -1,21 +1,16 @@
 -- Each reply of the step differs from the fixed texts in one of its first letters.
-use Rattle.std.proofs.Common.{◌≡◌, ◌≢◌, ℕ, List, get_or, Bool, true, false, Option, None, Some, is_none, Result, Ok, Err, refl, ap, ◌∙◌, sym, arith}
+use Rattle.std.proofs.Common.{◌≡◌, ◌≢◌, ℕ, List, get_or, Option, None, Some, Ok, Err, refl, ap, ◌∙◌, sym, arith}
 use Rattle.doip_json.specs.declared.fault.TextFault.TheVariants as json
 use Rattle.doip_message.specs.declared.request.FieldName.TheVariants as names
-use Rattle.doip_message.specs.declared.request.RequestFault.{RequestFault}
 use Rattle.doip_message.specs.declared.request.Why.TheVariants.{NoSegment, FirstIsBytes, Json, NotTable, Field, TwoInputs, Memory}
-use Rattle.doip_message.specs.Asked.{Asked}
+use Rattle.doip_message.specs.Asked.{Content, no_content, one_value, parts}
 use Rattle.doip_message.specs.Reply.{Replied, reply_text, done}
 use Rattle.doip_message.specs.Fixed.{memory_reply, disk_reply, closed_reply, framing_reply}
-use Rattle.repo_step.specs.declared.brought.Brought.{Brought}
-use Rattle.repo_step.specs.declared.operation.Operation.{Operation}
-use Rattle.repo_step.specs.declared.operation.Operation.TheVariants.{Hello}
 use Rattle.repo_step.specs.declared.refusal.Refusal.{Refusal}
-use Rattle.repo_step.specs.declared.refusal.Refusal.TheVariants.{Invalid, AuthenticationRefused, OperationUnknown, TargetUnknown}
-use Rattle.repo_step.specs.Setting.{Setting, State}
-use Rattle.repo_step.specs.Chain.{unless, found, read}
+use Rattle.repo_step.specs.declared.refusal.Refusal.TheVariants.{Invalid, AuthenticationRefused, OperationUnknown, TargetUnknown, NotOffered, AuthenticationNeeded, NotPermitted, ArgumentElement, BadInput, TypeMissing, TypeUnknown, NoBytes, OtherId, OtherType, InUse, CounterSpent, Declined, TooManyObjects, LastRevision, TooManyChanges, AreaFull}
 use Rattle.repo_step.specs.Refusals.{refused}
-use Rattle.repo_step.specs.Step.{is_text, operation_in, operate, output_of, plan_with, plan_of}
+use Rattle.repo_step.specs.Effect.{Attempt}
+use Rattle.repo_step.specs.Step.{plan_with}
 use Rattle.repo_step.specs.Laws.{IsNoFixedText}
 
 -- one letter of a reply's text
@@ -93,36 +88,63 @@ refusal_is_none id OperationUnknown =
     by_first OperationUnknown 111 refl (λ m. refl) (omega arith) (omega arith) (omega arith) (omega arith) id
 refusal_is_none id TargetUnknown =
     by_first TargetUnknown 116 refl (λ m. refl) (omega arith) (omega arith) (omega arith) (omega arith) id
+refusal_is_none id NotOffered =
+    by_first NotOffered 111 refl (λ m. refl) (omega arith) (omega arith) (omega arith) (omega arith) id
+refusal_is_none id AuthenticationNeeded =
+    by_first AuthenticationNeeded 97 refl (λ m. refl) (omega arith) (omega arith) (omega arith) (omega arith) id
+refusal_is_none id NotPermitted =
+    by_first NotPermitted 110 refl (λ m. refl) (omega arith) (omega arith) (omega arith) (omega arith) id
+refusal_is_none id ArgumentElement =
+    by_first ArgumentElement 97 refl (λ m. refl) (omega arith) (omega arith) (omega arith) (omega arith) id
+refusal_is_none id (BadInput fault) =
+    by_first (BadInput fault) 105 refl (λ m. refl) (omega arith) (omega arith) (omega arith) (omega arith) id
+refusal_is_none id TypeMissing =
+    by_first TypeMissing 105 refl (λ m. refl) (omega arith) (omega arith) (omega arith) (omega arith) id
+refusal_is_none id (TypeUnknown name) =
+    by_first (TypeUnknown name) 116 refl (λ m. refl) (omega arith) (omega arith) (omega arith) (omega arith) id
+refusal_is_none id (NoBytes e) =
+    by_first (NoBytes e) 105 refl (λ m. refl) (omega arith) (omega arith) (omega arith) (omega arith) id
+refusal_is_none id OtherId =
+    by_first OtherId 105 refl (λ m. refl) (omega arith) (omega arith) (omega arith) (omega arith) id
+refusal_is_none id OtherType =
+    by_first OtherType 116 refl (λ m. refl) (omega arith) (omega arith) (omega arith) (omega arith) id
+refusal_is_none id InUse =
+    by_first InUse 105 refl (λ m. refl) (omega arith) (omega arith) (omega arith) (omega arith) id
+refusal_is_none id CounterSpent =
+    by_first CounterSpent 108 refl (λ m. refl) (omega arith) (omega arith) (omega arith) (omega arith) id
+refusal_is_none id (Declined reason) =
+    by_first (Declined reason) 101 refl (λ m. refl) (omega arith) (omega arith) (omega arith) (omega arith) id
+refusal_is_none id TooManyObjects =
+    by_first TooManyObjects 108 refl (λ m. refl) (omega arith) (omega arith) (omega arith) (omega arith) id
+refusal_is_none id LastRevision =
+    by_first LastRevision 108 refl (λ m. refl) (omega arith) (omega arith) (omega arith) (omega arith) id
+refusal_is_none id TooManyChanges =
+    by_first TooManyChanges 108 refl (λ m. refl) (omega arith) (omega arith) (omega arith) (omega arith) id
+refusal_is_none id (AreaFull used asked) =
+    by_first (AreaFull used asked) 108 refl (λ m. refl) (omega arith) (omega arith) (omega arith) (omega arith) id
 
--- An operation's reply begins with its output.
-done_is_none : (setting : Setting) (operation : Operation) (id : Option (List ℕ))
-    → IsNoFixedText (done id (output_of setting operation))
-done_is_none setting Hello id =
-    let reply : Option (List ℕ) → Replied = λ m. done m (output_of setting Hello) in
-    let is = at_any reply 2 111 refl (λ m. refl) id in
-    record {
-      memory = other (reply id) memory_reply 2 (λ e. absurd (omega (arith, sym is ∙ e)));
-      disk = other (reply id) disk_reply 2 (λ e. absurd (omega (arith, sym is ∙ e)));
-      closed = other (reply id) closed_reply 2 (λ e. absurd (omega (arith, sym is ∙ e)));
-      framing = other (reply id) framing_reply 2 (λ e. absurd (omega (arith, sym is ∙ e)));
-    }
+-- A reply that is done begins with its output, its request id or its status, and never with attributes.
+begins_otherwise : (reply : Option (List ℕ) → Replied) (a b : ℕ) → letter (reply None) 2 ≡ a
+    → ((m : List ℕ) → letter (reply (Some m)) 2 ≡ b) → a ≢ 97 → b ≢ 97 → (id : Option (List ℕ)) → IsNoFixedText (reply id)
+begins_otherwise reply a b none some not not' None = record {
+  memory = other (reply None) memory_reply 2 (λ e. not (sym none ∙ e));
+  disk = other (reply None) disk_reply 2 (λ e. not (sym none ∙ e));
+  closed = other (reply None) closed_reply 2 (λ e. not (sym none ∙ e));
+  framing = other (reply None) framing_reply 2 (λ e. not (sym none ∙ e));
+}
+begins_otherwise reply a b none some not not' (Some m) = record {
+  memory = other (reply (Some m)) memory_reply 2 (λ e. not' (sym (some m) ∙ e));
+  disk = other (reply (Some m)) disk_reply 2 (λ e. not' (sym (some m) ∙ e));
+  closed = other (reply (Some m)) closed_reply 2 (λ e. not' (sym (some m) ∙ e));
+  framing = other (reply (Some m)) framing_reply 2 (λ e. not' (sym (some m) ∙ e));
+}
 
-module _ (setting : Setting) (brought : Brought) (state : State) where
-  -- The same of the whole chain, by its tests.
-  chain_is_none : (id : Option (List ℕ)) (anonymous : Bool) (operation : Option Operation) (known : Bool)
-      → IsNoFixedText (plan_with id state (unless anonymous AuthenticationRefused (
-      found operation OperationUnknown (λ operation.
-      unless known TargetUnknown (
-      Ok (operate setting brought state operation)))))).reply
-  unfolding unless found
-  chain_is_none id false operation known = refusal_is_none id AuthenticationRefused
-  chain_is_none id true None known = refusal_is_none id OperationUnknown
-  chain_is_none id true (Some operation) false = refusal_is_none id TargetUnknown
-  chain_is_none id true (Some operation) true = done_is_none setting operation id
+done_is_none : (output : Content) (id : Option (List ℕ)) → IsNoFixedText (done id output)
+done_is_none no_content id = begins_otherwise (λ m. done m no_content) 115 114 refl (λ m. refl) (omega arith) (omega arith) id
+done_is_none (one_value v) id = begins_otherwise (λ m. done m (one_value v)) 111 111 refl (λ m. refl) (omega arith) (omega arith) id
+done_is_none (parts ss) id = begins_otherwise (λ m. done m (parts ss)) 115 114 refl (λ m. refl) (omega arith) (omega arith) id
 
-  pub replied : (meant : Result Asked RequestFault) → IsNoFixedText (plan_of setting brought state meant).reply
-  unfolding read
-  replied (Ok asked) =
-      chain_is_none asked.request_id (is_none asked.properties.authentication)
-      (operation_in asked.properties.operation_id) (is_text asked.properties.target_id setting.service)
-  replied (Err fault) = refusal_is_none fault.request_id (Invalid fault.why)
+-- the same of each plan
+pub plan_is_none : (id : Option (List ℕ)) (a : Attempt) → IsNoFixedText (plan_with id a).reply
+plan_is_none id (Ok effect) = done_is_none effect.output id
+plan_is_none id (Err refusal) = refusal_is_none id refusal

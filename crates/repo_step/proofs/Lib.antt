@@ -1,3 +1,12 @@
-pub mod StepLemmas
+pub mod ListLemmas
+pub mod ReplyLemmas
+pub mod MintLemmas
 pub mod FixedLemmas
 pub mod Histories
+pub mod NameLemmas
+pub mod DraftLemmas
+pub mod AnswerLemmas
+pub mod ExtensionLemmas
+pub mod StepLemmas
+pub mod InputLemmas
+pub mod KeepLemmas

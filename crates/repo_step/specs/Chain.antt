@@ -10,6 +10,11 @@ module _ {X : Type 0} where
   unless true refusal rest = rest
   unless false refusal rest = Err refusal
 
+  -- refuses where it is there
+  unfoldable pub clear : {A : Type 0} → Option A → (A → Refusal) → Result X Refusal → Result X Refusal
+  clear None refusal rest = rest
+  clear (Some a) refusal rest = Err (refusal a)
+
   -- refuses where it is absent, and the rest may use it
   unfoldable pub found : {A : Type 0} → Option A → Refusal → (A → Result X Refusal) → Result X Refusal
   found None refusal rest = Err refusal

@@ -8,7 +8,7 @@ use Rattle.repo_step.specs.declared.brought.Brought.{Brought}
 use Rattle.repo_step.specs.declared.outcome.Outcome.{Outcome}
 use Rattle.repo_step.specs.declared.outcome.Outcome.TheVariants.{Done, NoMemory}
 use Rattle.repo_step.specs.Setting.{Setting, State}
-use Rattle.repo_step.specs.Step.{Plan, step}
+use Rattle.repo_step.specs.Step.{Plan, step, after_change}
 
 -- one turn: its lane and session, the message, how it ended, when by the disk's clock, and what it brought
 pub record Entry : Type 0 where
@@ -33,10 +33,10 @@ fixed_reply NoMemory = Some memory_reply
 abbrev pub reply_with : Outcome → Replied → Replied
 reply_with outcome made = unwrap_or (fixed_reply outcome) made
 
--- the state that an outcome leaves, where it found the first and the step's is the second
-abbrev pub state_with : Outcome → State → State → State
-state_with Done before afterwards = afterwards
-state_with NoMemory before afterwards = before
+-- the state that an outcome leaves, where the turn brought this, planned this, and found this state
+abbrev pub state_with : Outcome → Brought → Plan → State → State
+state_with Done brought plan before = after_change brought plan.change before
+state_with NoMemory brought plan before = before
 
 -- the step of an entry
 abbrev pub step_of : Setting → State → Entry → Plan
@@ -48,7 +48,7 @@ reply setting state e = reply_with e.outcome (step_of setting state e).reply
 
 -- the state after an entry
 abbrev pub after : Setting → State → Entry → State
-after setting state e = state_with e.outcome state (step_of setting state e).state
+after setting state e = state_with e.outcome e.brought (step_of setting state e) state
 
 -- the state after items that give an entry each
 abbrev pub state_after : {A : Type 0} → Setting → (A → Entry) → State → List A → State

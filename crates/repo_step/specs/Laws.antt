@@ -1,12 +1,18 @@
 -- What the laws of the step and of histories say. This project's own.
-use Rattle.std.specs.Prelude.{◌≡◌, ◌≢◌, ℕ, List, [], ◌∷◌, ◌++◌, Bool, true, false}
+use Rattle.std.specs.Prelude.{◌≡◌, ◌≢◌, ◌<◌, ℕ, List, [], ◌∷◌, ◌++◌, Bool, true, false, None}
 use Rattle.std.specs.List.{AllByRecursion}
 use Rattle.doip_segment.specs.Segments.{Segment}
 use Rattle.doip_message.specs.Reply.{Replied, reply_text}
 use Rattle.doip_message.specs.Fixed.{memory_reply, disk_reply, closed_reply, framing_reply}
+use Rattle.record_core.specs.declared.change.Change.{Change}
+use Rattle.record_core.specs.Storable.{IsStorable}
+use Rattle.repo_state.specs.Contents.{apply}
+use Rattle.repo_state.specs.Sound.{IsConsistent}
 use Rattle.repo_step.specs.declared.brought.Brought.{Brought}
 use Rattle.repo_step.specs.declared.outcome.Outcome.{Outcome}
 use Rattle.repo_step.specs.Setting.{Setting, State}
+use Rattle.repo_step.specs.operations.Limits.{last_number, lacking}
+use Rattle.repo_step.specs.Step.{next_stamp}
 use Rattle.repo_step.specs.History.{Entry, exchange_of, exchanges_of, state_of, is_of}
 
 -- The text of the reply is none of the fixed texts.
@@ -46,3 +52,11 @@ IsAllOf lane session history = AllByRecursion (λ e. is_of lane session e ≡ tr
 -- No entry passes the test.
 abbrev pub NonePasses : (Entry → Bool) → List Entry → Type 0
 NonePasses passes history = AllByRecursion (λ e. passes e ≡ false) history
+
+-- The change can be made in the state: it can be recorded, there is a number for it, its record finds room in the area,
+-- and what it leaves is consistent.
+pub record CanFollow (brought : Brought) (s : State) (change : Change) : Type 0 where
+  pub storable : IsStorable change
+  pub numbered : s.contents.number < last_number
+  pub room : lacking s.room change ≡ None
+  pub consistent : IsConsistent (apply (record { stamp = next_stamp brought s; change = change }) s.contents)

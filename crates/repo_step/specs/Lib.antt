@@ -1,6 +1,14 @@
+pub mod Information
 pub mod Setting
 pub mod Chain
+pub mod Effect
 pub mod Refusals
+pub mod Rights
+pub mod operations
 pub mod Step
+pub mod Shown
+pub mod Turn
+pub mod Drafts
+pub mod Asking
 pub mod History
 pub mod Laws

@@ -1,13 +1,12 @@
 //! The service's information.
-ghost use Rattle.std.specs.Prelude.{◌≡◌, pos, codes, IfOk, OnOk, OnErr};
+ghost use Rattle.std.specs.Prelude.{◌≡◌, pos, codes, IfOk, OnOk};
 ghost use Rattle.std.specs.Ordering.{nat_cmp};
 ghost use Rattle.std.specs.Cmp.Lexicographic.{slice_cmp};
 ghost use Rattle.std.specs.BTreeMap.{insert_entry};
 ghost use Rattle.doip_json.specs.Value as values;
 ghost use Rattle.doip_json.specs.Meaning.{value_of};
-ghost use Rattle.repo_step.specs.Setting.{setting_of, addresses_of, information_of};
+ghost use Rattle.repo_step.specs.Information.{addresses, information};
 
-use crate::Config;
 use doip_json::{Json, JsonMap, Num, Str};
 use std::alloc::{AllocError, Global};
 
@@ -30,25 +29,30 @@ fn number(port: u16) -> Json
 }
 
 // How to reach the service.
-fn addresses(alloc: Global, config: &Config) -> Result<JsonMap, AllocError>
-    ensures { IfOk result (λ entries. entries ≡ addresses_of (setting_of config.now)) }
+fn addresses(alloc: Global, address: &str, port: u16) -> Result<JsonMap, AllocError>
+    ensures { IfOk result (λ entries. entries ≡ addresses address.now port) }
 {
     let mut entries = JsonMap::empty(alloc);
-    add_text(alloc, &mut entries, "ipAddress", config.address.get())?;
-    entries.put(Str::of(alloc, "port")?, number(config.port))?;
+    add_text(alloc, &mut entries, "ipAddress", address)?;
+    entries.put(Str::of(alloc, "port")?, number(port))?;
     add_text(alloc, &mut entries, "protocol", "TCP")?;
     add_text(alloc, &mut entries, "protocolVersion", "2.0")?;
     Ok(entries)
 }
 
 /// The service's information, which is the output of Hello.
-pub(crate) fn information(alloc: Global, config: &Config) -> Result<Json, AllocError>
-    ensures { IfOk result (λ json. value_of json ≡ information_of (setting_of config.now)) }
+pub(crate) fn information(
+    alloc: Global,
+    service: &str,
+    address: &str,
+    port: u16,
+) -> Result<Json, AllocError>
+    ensures { IfOk result (λ json. value_of json ≡ information service.now address.now port) }
 {
-    let attributes = addresses(alloc, config)?;
+    let attributes = addresses(alloc, address, port)?;
     let mut entries = JsonMap::empty(alloc);
     entries.put(Str::of(alloc, "attributes")?, Json::Table(attributes))?;
-    add_text(alloc, &mut entries, "id", config.service.get())?;
+    add_text(alloc, &mut entries, "id", service)?;
     add_text(alloc, &mut entries, "type", "0.TYPE/DOIPServiceInfo")?;
     Ok(Json::Table(entries))
 }

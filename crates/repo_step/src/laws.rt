@@ -1,11 +1,15 @@
 //! Laws of the step and of histories. Their functions do nothing when they run.
-ghost use Rattle.std.specs.Prelude.{◌≡◌, ℕ, List, [], Bool, true, map};
+ghost use Rattle.std.specs.Prelude.{◌≡◌, ℕ, List, [], Bool, true, map, Some};
 ghost use Rattle.doip_segment.specs.Segments.{Segment};
+ghost use Rattle.record_core.specs.declared.change.Change.{Change};
+ghost use Rattle.repo_state.specs.Sound.{IsConsistent};
 ghost use Rattle.repo_step.specs.declared.brought.Brought.{Brought};
 ghost use Rattle.repo_step.specs.Setting.{Setting, State};
 ghost use Rattle.repo_step.specs.Step.{step};
 ghost use Rattle.repo_step.specs.History.{Entry, exchanges_of, session_pairs};
-ghost use Rattle.repo_step.specs.Laws.{IsNoFixedText, Continues, AddsOne, NonePasses, IsAllOf, cause_of};
+ghost use Rattle.repo_step.specs.Laws.{IsNoFixedText, Continues, AddsOne, NonePasses, IsAllOf, cause_of, CanFollow};
+
+use repo_state::changes_keep_consistency;
 
 /// No reply of the step has the text for out of memory, for a disk fault, for a closed store or for a framing fault. So
 /// whoever reads one of these texts knows that no step wrote it.
@@ -35,3 +39,13 @@ pub fn equal_causes_give_equal_texts()
         → session_pairs setting first lane session history
         ≡ session_pairs setting first other_lane other_session other }
 {}
+
+/// In a consistent repository each change of the step can be made: it can be recorded, there is a number for it, its
+/// record finds room in the area, and the repository is consistent after it.
+pub fn steps_keep_consistency()
+    ensures { (setting : Setting) (brought : Brought) (s : State) (message : List Segment) (change : Change)
+        → IsConsistent s.contents → (step setting brought s message).change ≡ Some change
+        → CanFollow brought s change }
+{
+    changes_keep_consistency();
+}

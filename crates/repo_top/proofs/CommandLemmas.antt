@@ -6,7 +6,7 @@ use Rattle.std.proofs.lemmas.Option.{slice_get_within, get_or_from_slice_get}
 use Rattle.std.proofs.lemmas.Fmt.{decimal_injective}
 use Rattle.std.proofs.lemmas.Grind.{flat_map-append}
 use Rattle.std.specs.List.{AllByRecursion}
-use Rattle.repo_top.specs.Command.{GivenOption, Address, Port, Request, Command, AreArgumentsOf, IsCommand, IsInForm, IsService, spelling_of, address_in, port_in, request_in, port_of, request_limit}
+use Rattle.repo_top.specs.Command.{GivenOption, Address, Port, Accounts, Request, Command, AreArgumentsOf, IsCommand, IsInForm, IsService, spelling_of, address_in, port_in, accounts_in, request_in, port_of, request_limit}
 use Rattle.repo_top.specs.Taking.{IsGiven, with_option, AddsOption, RefusesOption, HasTaken}
 
 -- two arguments before others
@@ -18,9 +18,9 @@ record Two (m n s t : List ℕ) (xs ys : List (List ℕ)) : Type 0 where
 two : (m n s t : List ℕ) (xs ys : List (List ℕ)) → m ∷ s ∷ xs ≡ n ∷ t ∷ ys → Two m n s t xs ys
 two m n s t xs ys e = record { names = cc; values = cc; others = cc }
 
--- the third letter of an option's name
-letter : (m n : List ℕ) → m ≡ n → get_or m 2 0 ≡ get_or n 2 0
-letter m n e = ap (λ (w : List ℕ). get_or w 2 0) e
+-- the fourth byte of an option's name, in which all names differ
+letter : (m n : List ℕ) → m ≡ n → get_or m 3 0 ≡ get_or n 3 0
+letter m n e = ap (λ (w : List ℕ). get_or w 3 0) e
 
 record Same (a b : GivenOption) (xs ys : List (List ℕ)) : Type 0 where
   option : a ≡ b
@@ -36,6 +36,7 @@ same (Address s) (Address t) xs ys f g e = let h = two _ _ s t xs ys e in record
   others = h.others;
 }
 same (Address s) (Port n) xs ys f g e = absurd (omega (arith, letter _ _ (two _ _ s (decimal n) xs ys e).names))
+same (Address s) (Accounts t) xs ys f g e = absurd (omega (arith, letter _ _ (two _ _ s t xs ys e).names))
 same (Address s) (Request n) xs ys f g e = absurd (omega (arith, letter _ _ (two _ _ s (decimal n) xs ys e).names))
 same (Port m) (Address t) xs ys f g e = absurd (omega (arith, letter _ _ (two _ _ (decimal m) t xs ys e).names))
 same (Port m) (Port n) xs ys f g e =
@@ -43,11 +44,20 @@ same (Port m) (Port n) xs ys f g e =
       option = ap Port (numbers m n (omega (arith, f.1)) (omega (arith, g.1)) h.values);
       others = h.others;
     }
+same (Port m) (Accounts t) xs ys f g e = absurd (omega (arith, letter _ _ (two _ _ (decimal m) t xs ys e).names))
 same (Port m) (Request n) xs ys f g e =
     absurd (omega (arith, letter _ _ (two _ _ (decimal m) (decimal n) xs ys e).names))
+same (Accounts s) (Address t) xs ys f g e = absurd (omega (arith, letter _ _ (two _ _ s t xs ys e).names))
+same (Accounts s) (Port n) xs ys f g e = absurd (omega (arith, letter _ _ (two _ _ s (decimal n) xs ys e).names))
+same (Accounts s) (Accounts t) xs ys f g e = let h = two _ _ s t xs ys e in record {
+  option = ap Accounts h.values;
+  others = h.others;
+}
+same (Accounts s) (Request n) xs ys f g e = absurd (omega (arith, letter _ _ (two _ _ s (decimal n) xs ys e).names))
 same (Request m) (Address t) xs ys f g e = absurd (omega (arith, letter _ _ (two _ _ (decimal m) t xs ys e).names))
 same (Request m) (Port n) xs ys f g e =
     absurd (omega (arith, letter _ _ (two _ _ (decimal m) (decimal n) xs ys e).names))
+same (Request m) (Accounts t) xs ys f g e = absurd (omega (arith, letter _ _ (two _ _ (decimal m) t xs ys e).names))
 same (Request m) (Request n) xs ys f g e =
     let h = two _ _ (decimal m) (decimal n) xs ys e in record {
       option = ap Request (numbers m n f.1 g.1 h.values);
@@ -57,6 +67,7 @@ same (Request m) (Request n) xs ys f g e =
 length-words : (a : GivenOption) → length (spelling_of a) ≡ 2
 length-words (Address text) = refl
 length-words (Port n) = refl
+length-words (Accounts file) = refl
 length-words (Request n) = refl
 
 -- no arguments, or two and others
@@ -120,15 +131,19 @@ once f given more a b c before all is one =
 -- an option that is there isn't given again
 not_again : (given more : List GivenOption) (a : GivenOption) (taken command : Command)
     → flat_map address_in given ≡ option_to_list taken.address → flat_map port_in given ≡ option_to_list taken.port
+    → flat_map accounts_in given ≡ option_to_list taken.accounts
     → flat_map request_in given ≡ option_to_list taken.request
     → flat_map address_in (given ++ a ∷ more) ≡ option_to_list command.address
     → flat_map port_in (given ++ a ∷ more) ≡ option_to_list command.port
+    → flat_map accounts_in (given ++ a ∷ more) ≡ option_to_list command.accounts
     → flat_map request_in (given ++ a ∷ more) ≡ option_to_list command.request → IsGiven taken a → ⊥
-not_again given more (Address text) taken command a p r a' p' r' is =
+not_again given more (Address text) taken command a p f r a' p' f' r' is =
     once address_in given more (Address text) taken.address command.address a a' is (omega arith)
-not_again given more (Port n) taken command a p r a' p' r' is =
+not_again given more (Port n) taken command a p f r a' p' f' r' is =
     once port_in given more (Port n) taken.port command.port p p' is (omega arith)
-not_again given more (Request n) taken command a p r a' p' r' is =
+not_again given more (Accounts file) taken command a p f r a' p' f' r' is =
+    once accounts_in given more (Accounts file) taken.accounts command.accounts f f' is (omega arith)
+not_again given more (Request n) taken command a p f r a' p' f' r' is =
     once request_in given more (Request n) taken.request command.request r r' is (omega arith)
 
 -- Arguments of which one is left over are no command.
@@ -149,6 +164,8 @@ first_spelt (Address text) xs name value rest e = let h = two _ name text value 
     ap (λ (n : List ℕ). n ∷ text ∷ []) h.names ∙ ap (λ (v : List ℕ). name ∷ v ∷ []) h.values
 first_spelt (Port n) xs name value rest e = let h = two _ name (decimal n) value xs rest e in
     ap (λ (m : List ℕ). m ∷ decimal n ∷ []) h.names ∙ ap (λ (v : List ℕ). name ∷ v ∷ []) h.values
+first_spelt (Accounts file) xs name value rest e = let h = two _ name file value xs rest e in
+    ap (λ (n : List ℕ). n ∷ file ∷ []) h.names ∙ ap (λ (v : List ℕ). name ∷ v ∷ []) h.values
 first_spelt (Request n) xs name value rest e = let h = two _ name (decimal n) value xs rest e in
     ap (λ (m : List ℕ). m ∷ decimal n ∷ []) h.names ∙ ap (λ (v : List ℕ). name ∷ v ∷ []) h.values
 
@@ -172,9 +189,10 @@ refused words place taken name value rest h next refuses is = at (options_after 
             let spelt = first_spelt a (flat_map spelling_of more) name value rest e in
             let form = its_form h.given more a
             (subst (λ (gs : List GivenOption). AllByRecursion IsInForm gs) are is.1.in_form) in
-            not_again h.given more a taken is.0 h.address h.port h.request
+            not_again h.given more a taken is.0 h.address h.port h.accounts h.request
             (ap (λ (gs : List GivenOption). flat_map address_in gs) (sym are) ∙ is.1.address)
             (ap (λ (gs : List GivenOption). flat_map port_in gs) (sym are) ∙ is.1.port)
+            (ap (λ (gs : List GivenOption). flat_map accounts_in gs) (sym are) ∙ is.1.accounts)
             (ap (λ (gs : List GivenOption). flat_map request_in gs) (sym are) ∙ is.1.request) (refuses a spelt form)
 
 -- what isn't there through a reference isn't there
@@ -207,6 +225,7 @@ this_one f given a b x is none gives =
 record Values (given : List GivenOption) (command : Command) : Type 0 where
   address : flat_map address_in given ≡ option_to_list command.address
   port : flat_map port_in given ≡ option_to_list command.port
+  accounts : flat_map accounts_in given ≡ option_to_list command.accounts
   request : flat_map request_in given ≡ option_to_list command.request
 
 values_with : (given : List GivenOption) (a : GivenOption) (old : Command) → Values given old → ¬ IsGiven old a
@@ -215,24 +234,35 @@ values_with given (Address text) old v is_new =
     record {
       address = this_one address_in given (Address text) old.address text v.address is_new refl;
       port = another port_in given (Address text) old.port v.port refl;
+      accounts = another accounts_in given (Address text) old.accounts v.accounts refl;
       request = another request_in given (Address text) old.request v.request refl;
     }
 values_with given (Port n) old v is_new =
     record {
       address = another address_in given (Port n) old.address v.address refl;
       port = this_one port_in given (Port n) old.port n v.port is_new refl;
+      accounts = another accounts_in given (Port n) old.accounts v.accounts refl;
       request = another request_in given (Port n) old.request v.request refl;
+    }
+values_with given (Accounts file) old v is_new =
+    record {
+      address = another address_in given (Accounts file) old.address v.address refl;
+      port = another port_in given (Accounts file) old.port v.port refl;
+      accounts = this_one accounts_in given (Accounts file) old.accounts file v.accounts is_new refl;
+      request = another request_in given (Accounts file) old.request v.request refl;
     }
 values_with given (Request n) old v is_new =
     record {
       address = another address_in given (Request n) old.address v.address refl;
       port = another port_in given (Request n) old.port v.port refl;
+      accounts = another accounts_in given (Request n) old.accounts v.accounts refl;
       request = this_one request_in given (Request n) old.request n v.request is_new refl;
     }
 
 service_kept : (old : Command) (a : GivenOption) → old.service ≡ (with_option old a).service
 service_kept old (Address text) = refl
 service_kept old (Port n) = refl
+service_kept old (Accounts file) = refl
 service_kept old (Request n) = refl
 
 pub takes : (words : List (List ℕ)) (place : ℕ) (old new : Command) (name value : List ℕ) → HasTaken words place old
@@ -260,7 +290,7 @@ takes words place old new name value h next t =
     took =
         let v : Values (h.given ++ t.option ∷ []) (with_option old t.option) =
         values_with h.given t.option old
-        (record { address = h.address; port = h.port; request = h.request }) t.is_new in
+        (record { address = h.address; port = h.port; accounts = h.accounts; request = h.request }) t.is_new in
         record {
           given = h.given ++ t.option ∷ [];
           in_order = h.in_order ∙ ap (λ (w : List (List ℕ)). codes "answer" ∷ old.service ∷ w) after_it
@@ -269,6 +299,7 @@ takes words place old new name value h next t =
           in_form = all_more h.given t.option h.in_form t.in_form;
           address = v.address;
           port = v.port;
+          accounts = v.accounts;
           request = v.request;
         }
 
@@ -300,15 +331,16 @@ last_word words place inside last =
 
 -- before the first option
 pub starts : (words : List (List ℕ)) (command : Command) → slice_get words 0 ≡ Some (codes "answer")
-    → slice_get words 1 ≡ Some command.service → command.address ≡ None → command.port ≡ None → command.request ≡ None
-    → HasTaken words 2 command
-starts words command a b address port request =
+    → slice_get words 1 ≡ Some command.service → command.address ≡ None → command.port ≡ None → command.accounts ≡ None
+    → command.request ≡ None → HasTaken words 2 command
+starts words command a b address port accounts request =
     record {
       given = [];
       in_order = next_two words 0 (codes "answer") command.service a b;
       in_form = tt;
       address = sym (ap option_to_list address);
       port = sym (ap option_to_list port);
+      accounts = sym (ap option_to_list accounts);
       request = sym (ap option_to_list request);
     }
 
@@ -326,6 +358,7 @@ whole words command h service =
       in_form = h.in_form;
       address = h.address;
       port = h.port;
+      accounts = h.accounts;
       request = h.request;
       service = service;
     }
@@ -335,6 +368,7 @@ port_in_form : (given : List GivenOption) (n : ℕ) → AllByRecursion IsInForm 
     → 1 ≤ n
 port_in_form [] n h e = absurd (omega (arith, ap length e))
 port_in_form (Address text ∷ given) n h e = port_in_form given n h.1 e
+port_in_form (Accounts file ∷ given) n h e = port_in_form given n h.1 e
 port_in_form (Request m ∷ given) n h e = port_in_form given n h.1 e
 port_in_form (Port m ∷ given) n h e = let same_number : m ≡ n = ap (λ (w : List ℕ). get_or w 0 0) e in
     omega (arith, h.0.0, same_number)
@@ -352,6 +386,7 @@ all_of : (given : List GivenOption) (n : ℕ) → AllByRecursion IsInForm given 
 all_of [] n h e = absurd (omega (arith, ap length e))
 all_of (Address text ∷ given) n h e = all_of given n h.1 e
 all_of (Port m ∷ given) n h e = all_of given n h.1 e
+all_of (Accounts file ∷ given) n h e = all_of given n h.1 e
 all_of (Request m ∷ given) n h e = let same_number : m ≡ n = ap (λ (w : List ℕ). get_or w 0 0) e in
     (omega (arith, h.0.0, same_number), omega (arith, h.0.1, same_number))
 

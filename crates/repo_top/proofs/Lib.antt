@@ -1,6 +1,5 @@
 pub mod Numbers
 pub mod CommandLemmas
-pub mod Replies
 pub mod SessionLemmas
 pub mod LawLemmas
 pub mod RunLemmas

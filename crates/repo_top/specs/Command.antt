@@ -7,34 +7,46 @@ use Rattle.dobj_model.specs.Name.{IsName}
 pub data GivenOption : Type 0 where
   Address : List ℕ → GivenOption
   Port : ℕ → GivenOption
+  Accounts : List ℕ → GivenOption
   Request : ℕ → GivenOption
 
 -- its two arguments: a name and a value, a number in decimal digits with no sign and no leading zero
 abbrev pub spelling_of : GivenOption → List (List ℕ)
 spelling_of (Address text) = codes "--address" ∷ text ∷ []
 spelling_of (Port n) = codes "--port" ∷ decimal n ∷ []
+spelling_of (Accounts file) = codes "--accounts" ∷ file ∷ []
 spelling_of (Request n) = codes "--request" ∷ decimal n ∷ []
 
 -- the bounds of its value
 abbrev pub IsInForm : GivenOption → Type 0
 IsInForm (Address text) = Unit {0}
 IsInForm (Port n) = (1 ≤ n) × (n ≤ 65535)
+IsInForm (Accounts file) = Unit {0}
 IsInForm (Request n) = (64 ≤ n) × (n ≤ 16777216)
 
--- the value of an option that is an address, a port, a limit on requests
+-- the value of an option that is an address, a port, an accounts file, a limit on requests
 abbrev pub address_in : GivenOption → List (List ℕ)
 address_in (Address text) = text ∷ []
 address_in (Port n) = []
+address_in (Accounts file) = []
 address_in (Request n) = []
 
 abbrev pub port_in : GivenOption → List ℕ
 port_in (Address text) = []
 port_in (Port n) = n ∷ []
+port_in (Accounts file) = []
 port_in (Request n) = []
+
+abbrev pub accounts_in : GivenOption → List (List ℕ)
+accounts_in (Address text) = []
+accounts_in (Port n) = []
+accounts_in (Accounts file) = file ∷ []
+accounts_in (Request n) = []
 
 abbrev pub request_in : GivenOption → List ℕ
 request_in (Address text) = []
 request_in (Port n) = []
+request_in (Accounts file) = []
 request_in (Request n) = n ∷ []
 
 -- the prefix of a service: what comes before the first '/', or all of it
@@ -50,6 +62,7 @@ pub record Command : Type 0 where
   pub service : List ℕ
   pub address : Option (List ℕ)
   pub port : Option ℕ
+  pub accounts : Option (List ℕ)
   pub request : Option ℕ
 
 -- The arguments are `answer`, the service, and then options in any order, each at most once.
@@ -59,6 +72,7 @@ pub record AreArgumentsOf (command : Command) (words : List (List ℕ)) : Type 0
   pub in_form : AllByRecursion IsInForm given
   pub address : flat_map address_in given ≡ option_to_list command.address
   pub port : flat_map port_in given ≡ option_to_list command.port
+  pub accounts : flat_map accounts_in given ≡ option_to_list command.accounts
   pub request : flat_map request_in given ≡ option_to_list command.request
   pub service : IsService command.service
 

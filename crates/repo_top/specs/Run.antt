@@ -9,6 +9,8 @@ use Rattle.session_core.specs.declared.end.SessionEnd.{SessionEnd}
 use Rattle.session_core.specs.declared.end.SessionEnd.TheVariants.{Ended, Cut, Framing, ReadFault, WriteFault}
 use Rattle.doip_message.specs.Pairs.{Pair}
 use Rattle.session_core.specs.Session.{Session, Served, Transcript, IsTranscript}
+use Rattle.acl_core.specs.Known.{Known, known}
+use Rattle.ext_ops.specs.Offered.{Offered}
 use Rattle.repo_step.specs.Setting.{Setting}
 use Rattle.repo_step.specs.History.{Entry, session_pairs}
 use Rattle.repo_top.specs.declared.outcome.Note.{Note}
@@ -16,14 +18,17 @@ use Rattle.repo_top.specs.declared.outcome.Note.TheVariants as notes
 use Rattle.repo_top.specs.Command.{Command, AreArgumentsOf, prefix_of, address_of, port_of, request_limit}
 use Rattle.repo_top.specs.Session.{IsPast, first_state}
 
--- The repository is set up as the arguments say.
-pub record IsSetUp (words : List (List ℕ)) (setting : Setting) (limits : Limits) : Type 0 where
+-- The repository is set up as the arguments say, with these accounts and with extensions that offer this.
+pub record IsSetUp (words : List (List ℕ)) (listed : Known) (offers : Offered) (setting : Setting)
+    (limits : Limits) : Type 0 where
   pub command : Command
   pub are_arguments : AreArgumentsOf command words
   pub service : setting.service ≡ command.service
   pub prefix : setting.prefix ≡ prefix_of command.service
   pub address : setting.address ≡ address_of command
   pub port : setting.port ≡ port_of command
+  pub accounts : setting.accounts ≡ listed
+  pub extensions : setting.extensions ≡ offers
   pub total : limits.total ≡ request_limit command
   pub json : limits.json ≡ min limits.total 1048576
 
@@ -34,22 +39,27 @@ pub record IsServed (limits : Limits) (pairs : List Pair) (before after : LinkSt
   pub session : (input : List ℕ) → before.left ≡ Some input
       → (t : Transcript) × Session limits t × IsTranscript [] pairs before after end t
 
+-- no accounts, and no admin
+abbrev pub no_accounts : Known
+no_accounts = known [] None
+
 -- A session of a run: the repository is set up as the arguments say, the history is that of one session in lane 0 with
 -- number 0, and its pairs were served on the link.
-pub record RanSession (words : List (List ℕ)) (past : List Entry) (before after : LinkState)
+pub record RanSession (words : List (List ℕ)) (offers : Offered) (past : List Entry) (before after : LinkState)
     (end : SessionEnd) : Type 0 where
   pub setting : Setting
   pub limits : Limits
-  pub set_up : IsSetUp words setting limits
+  pub set_up : IsSetUp words no_accounts offers setting limits
   pub past_is : IsPast setting 0 0 past
   pub served : IsServed limits (session_pairs setting first_state 0 0 past) before after end
 
 -- A run that was handed a link returns it with the end of its session; another run has no link, no end and no history.
-abbrev pub IsRunOf : {T : Type 0} → (T → LinkState) → List (List ℕ) → List Entry → Option T → Option T
+abbrev pub IsRunOf : {T : Type 0} → (T → LinkState) → List (List ℕ) → Offered → List Entry → Option T → Option T
     → Option SessionEnd → Type 0
-IsRunOf state words past (Some begun) (Some link) (Some end) = RanSession words past (state begun) (state link) end
-IsRunOf state words past None None None = past ≡ []
-IsRunOf state words past _ _ _ = ⊥
+IsRunOf state words offers past (Some begun) (Some link) (Some end) =
+    RanSession words offers past (state begun) (state link) end
+IsRunOf state words offers past None None None = past ≡ []
+IsRunOf state words offers past _ _ _ = ⊥
 
 -- the link as it was handed out had no fault, nothing was read from it or written on it, and it wasn't closed
 abbrev pub BeginsFresh : {T : Type 0} → (T → LinkState) → Option T → Type 0

@@ -32,6 +32,7 @@ pub(crate) struct AnswerArguments<'a> {
     pub service: &'a str,
     pub address: Option<&'a str>,
     pub port: Option<u16>,
+    pub accounts: Option<&'a str>,
     pub request: Option<u32>,
 }
 
@@ -149,6 +150,19 @@ fn take_port(arguments: &mut AnswerArguments<'_>, value: &str) -> bool
     true
 }
 
+// Adds the name of the accounts file to the command, unless it has one. Whether it did.
+fn take_accounts<'a>(arguments: &mut AnswerArguments<'a>, value: &'a str) -> bool
+    ensures taken { IsTrue result
+        → AddsOption (command_in arguments.old) (command_in arguments.new) (codes "--accounts") value.now }
+    ensures refused { IsFalse result → RefusesOption (command_in arguments.old) (codes "--accounts") value.now }
+{
+    if arguments.accounts.is_some() {
+        return false;
+    }
+    arguments.accounts = Some(value);
+    true
+}
+
 // Adds the limit on requests to the command, unless it has one or the value is none. Whether it did.
 fn take_request(arguments: &mut AnswerArguments<'_>, value: &str) -> bool
     ensures taken { IsTrue result
@@ -174,6 +188,7 @@ fn take_option<'a>(arguments: &mut AnswerArguments<'a>, name: &str, value: &'a s
     match name {
         "--address" => take_address(arguments, value),
         "--port" => take_port(arguments, value),
+        "--accounts" => take_accounts(arguments, value),
         "--request" => take_request(arguments, value),
         _ => false,
     }
@@ -218,6 +233,7 @@ pub(crate) fn command_of(words: &Words) -> Option<AnswerArguments<'_>>
         service,
         address: None,
         port: None,
+        accounts: None,
         request: None,
     };
     if take_options(&mut arguments, words) {

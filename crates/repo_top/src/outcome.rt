@@ -24,6 +24,7 @@ pub enum Note {
 pub struct Ran<H: Host>
 where
     H::Link: Drop,
+    H::Clock: Drop,
 {
     /// The exit status.
     pub status: u8,
@@ -35,6 +36,8 @@ where
     pub link: Option<H::Link>,
     /// The end of the session, if there was one.
     pub end: Option<SessionEnd>,
+    /// The clock that gave the times of the session's turns, if there was one.
+    pub clock: Option<H::Clock>,
     /// The history of the run: that of its session, and empty without one. It has no bytes.
     pub past: Past,
 }

@@ -1,21 +1,25 @@
 //! The top call.
-ghost use Rattle.std.specs.Prelude.{◌≡◌, ◌≤◌, ◌⊎◌, [], min, option_map, IfOk, Some, None};
+ghost use Rattle.std.specs.Prelude.{◌≡◌, ◌≤◌, ◌⊎◌, [], min, is_some, option_map, IfOk, Some, None};
+ghost use Rattle.std.specs.Option.{ForSome};
+ghost use Rattle.ext_ops.specs.Offered.{Offered, offered};
 ghost use Rattle.base_core.specs.Causes.{Rose};
 ghost use Rattle.doip_segment.specs.Decoding.{Took};
 ghost use Rattle.repo_step.specs.Setting.{setting_of};
 ghost use Rattle.repo_top.specs.Command.{AreArgumentsOf, IsCommand, IsService, prefix_of, address_of, port_of};
 ghost use Rattle.repo_top.specs.Taking.{command_in};
 ghost use Rattle.repo_step.specs.History.{session_pairs};
-ghost use Rattle.repo_top.specs.Session.{IsPast, first_state};
+ghost use Rattle.repo_top.specs.Session.{IsPast, HasTimesOf, first_state, setting_with};
 ghost use Rattle.repo_top.specs.Run.{IsRunOf, IsSetUp, IsServed, BeginsFresh, BeginsWithFirst, LinkCounted, CalledOnce, CallsNoOther, IsExit, IsInvalidExit, exit, CountsNoFault, status_at, note_at};
 
 use crate::alone::Alone;
 use crate::command::{AnswerArguments, command_of, prefix_of};
 use crate::{Note, Ran, Words};
+use acl_core::Accounts;
 use dobj_model::Id;
 use doip_json::Str;
 use doip_segment::{Decoder, Limits};
-use link_core::{Host, HostFault, Link};
+use ext_ops::Extensions;
+use link_core::{Clock, Host, HostFault, Link};
 use repo_step::{Config, Past};
 use session_core::{Reader, SessionEnd, a_session_that_reports, serve};
 use std::alloc::{AllocError, Global};
@@ -37,34 +41,38 @@ struct Prepared {
     decoder: Decoder,
 }
 
-// How the command sets up a repository.
-fn config_of(alloc: Global, command: &AnswerArguments<'_>) -> Result<Config, AllocError>
+// How the command sets up a repository with these accounts.
+fn config_of(
+    alloc: Global,
+    command: &AnswerArguments<'_>,
+    accounts: Accounts,
+) -> Result<Config, AllocError>
     requires service { IsService command.now.service.now }
     requires port { 1 ≤ port_of (command_in command.now) }
     ensures service { IfOk result (λ config. config.service ≡ command.now.service.now) }
     ensures prefix { IfOk result (λ config. config.prefix ≡ prefix_of command.now.service.now) }
     ensures address { IfOk result (λ config. config.address ≡ address_of (command_in command.now)) }
     ensures port { IfOk result (λ config. config.port ≡ port_of (command_in command.now)) }
+    ensures accounts { IfOk result (λ config. config.accounts ≡ accounts) }
 {
-    match Id::of(alloc, command.service)? {
-        Some(service) => Ok(Config {
-            service,
-            prefix: Str::of(alloc, prefix_of(command.service))?,
-            address: Str::of(alloc, command.address())?,
-            port: command.port(),
-        }),
-        None => unreachable!(),
-    }
+    let Some(service) = Id::of(alloc, command.service)? else {
+        unreachable!()
+    };
+    let prefix = Str::of(alloc, prefix_of(command.service))?;
+    let address = Str::of(alloc, command.address())?;
+    Config::new(alloc, service, prefix, address, command.port(), accounts)
 }
 
-// AddsOption all the memory that a session needs beside that of its replies.
+// Takes all the memory that a session needs beside that of its replies.
 fn prepare(
     alloc: Global,
     words: &Words,
     command: &AnswerArguments<'_>,
+    accounts: Accounts,
 ) -> Result<Prepared, AllocError>
     requires { AreArgumentsOf (command_in command.now) words.now }
-    ensures set_up { IfOk result (λ p. IsSetUp words.now (setting_of p.config) p.decoder.limits) }
+    ensures set_up { IfOk result (λ p. (offers : Offered)
+        → IsSetUp words.now accounts offers (setting_of p.config offers) p.decoder.limits) }
     ensures held { IfOk result (λ p. p.reader ≡ []) }
     ensures took { IfOk result (λ p. Took p.decoder []) }
     ensures place { IfOk result (λ p. p.decoder.taken ≡ 0) }
@@ -74,7 +82,7 @@ fn prepare(
         json: total.min(JSON_LIMIT),
         total,
     };
-    let config = config_of(alloc, command)?;
+    let config = config_of(alloc, command, accounts)?;
     let reader = Reader::new(alloc)?;
     let decoder = Decoder::new(alloc, limits)?;
     Ok(Prepared {
@@ -84,15 +92,32 @@ fn prepare(
     })
 }
 
-// Serves the link to the end of its session: the link, the end, and the history.
-fn serve_link<L: Link>(alloc: Global, prepared: Prepared, link: L) -> (L, SessionEnd, Past)
+// A session that was served: its link and its end, the clock that gave its times, and its history.
+#[derive(Drop)]
+struct OneSession<L, C> {
+    link: L,
+    end: SessionEnd,
+    clock: C,
+    past: Past,
+}
+
+// Serves the link to the end of its session.
+fn serve_link<L: Link, C: Clock>(
+    alloc: Global,
+    prepared: Prepared,
+    extensions: &Extensions,
+    clock: C,
+    link: L,
+) -> OneSession<L, C>
     requires held { prepared.reader ≡ [] }
     requires took { Took prepared.decoder [] }
     requires place { prepared.decoder.taken ≡ 0 }
-    ensures past { IsPast (setting_of prepared.config) 0 0 result.2 }
+    requires unused { ForSome (C.given clock) (λ times. times ≡ []) }
+    ensures past { IsPast (setting_with prepared.config extensions.now.operations extensions.now.hooks) 0 0 result.past }
+    ensures times { HasTimesOf (C.given result.clock) result.past }
     ensures served { IsServed prepared.decoder.limits
-        (session_pairs (setting_of prepared.config) first_state 0 0 result.2)
-        (L.state link) (L.state result.0) result.1 }
+        (session_pairs (setting_with prepared.config extensions.now.operations extensions.now.hooks) first_state 0 0 result.past)
+        (L.state link) (L.state result.link) result.end }
 {
     a_session_that_reports();
     let Prepared {
@@ -101,20 +126,28 @@ fn serve_link<L: Link>(alloc: Global, prepared: Prepared, link: L) -> (L, Sessio
         decoder,
     } = prepared;
     let mut link = link;
-    let mut alone = Alone::new(alloc, &config, LANE, SESSION);
+    let mut alone = Alone::new(alloc, &config, extensions, clock, LANE, SESSION);
     let (_, _, end) = serve(&mut link, &mut reader, decoder, Vec::new(alloc), &mut alone);
-    (link, end, alone.into_past())
+    let (clock, past) = alone.into_parts();
+    OneSession {
+        link,
+        end,
+        clock,
+        past,
+    }
 }
 
 // A run that ended before any session.
 fn ended_early<H: Host>(status: u8, note: Note) -> Ran<H>
 where
     H::Link: Drop,
+    H::Clock: Drop,
     ensures status { result.status ≡ status }
     ensures note { result.note ≡ note }
     ensures begun { result.begun ≡ None }
     ensures link { result.link ≡ None }
     ensures end { result.end ≡ None }
+    ensures clock { result.clock ≡ None }
     ensures past { result.past ≡ [] }
 {
     Ran {
@@ -123,6 +156,7 @@ where
         begun: None,
         link: None,
         end: None,
+        clock: None,
         past: Past::empty(),
     }
 }
@@ -139,7 +173,7 @@ fn status_of(end: SessionEnd) -> (u8, Note)
     }
 }
 
-/// IsRunOf the command of the arguments.
+/// Runs the command of the arguments, with these extensions.
 ///
 /// | status | comes | note |
 /// |---|---|---|
@@ -152,16 +186,26 @@ fn status_of(end: SessionEnd) -> (u8, Note)
 /// The arguments are `answer SERVICE [--address A] [--port N] [--request N]`: a service of 1 to 255 bytes, of which at
 /// most 200 come before the first `/`, and then options in any order, each at most once; a port from 1 to 65,535, a
 /// limit on the bytes of a request from 64 to 16,777,216. It replies to each message on the host's console, in order.
-/// An invalid command line leaves the host as it was.
-pub fn run_plain<H: Host>(alloc: Global, words: &Words, host: &mut H) -> Ran<H>
+/// The repository holds nothing at first, and lasts as long as the session. An invalid command line leaves the host as
+/// it was.
+pub fn run_plain<H: Host>(
+    alloc: Global,
+    words: &Words,
+    host: &mut H,
+    extensions: Extensions,
+) -> Ran<H>
 where
     H::Link: Drop,
+    H::Clock: Drop,
     // However the input is cut into reads, the messages are those that the grammar defines. Written are, in order, the
     // texts of the replies of one history of the one-thread repository, or a prefix of them if the link failed.
-    ensures session { IsRunOf H.Link.state words.now result.past (option_map (λ s. s.value) result.begun) result.link
-        result.end }
+    ensures session { IsRunOf H.Link.state words.now (offered extensions.operations extensions.hooks) result.past
+        (option_map (λ s. s.value) result.begun) result.link result.end }
     ensures fresh { BeginsFresh H.Link.state (option_map (λ s. s.value) result.begun) }
     ensures first { BeginsWithFirst H.Link.state (H.state host.old).holds (option_map (λ s. s.value) result.begun) }
+    // The times of the history are what the clock gave, in order.
+    ensures times { ForSome result.clock (λ clock. HasTimesOf (H.Clock.given clock) result.past) }
+    ensures clock { is_some result.clock ≡ is_some result.link }
 
     // Each status has its cause, and if no fault was counted a command has status 0, or 4 when out of memory.
     ensures status { IsCommand words.now → IsExit H.Link.state (H.state host.old).faults (H.state host.new).faults
@@ -179,7 +223,7 @@ where
     let Some(command) = command_of(words) else {
         return ended_early(2, Note::Words);
     };
-    let prepared = match prepare(alloc, words, &command) {
+    let prepared = match prepare(alloc, words, &command, Accounts::none(alloc)) {
         Ok(prepared) => prepared,
         Err(AllocError) => return ended_early(4, Note::Memory),
     };
@@ -189,14 +233,16 @@ where
         Err(HostFault::Memory) => return ended_early(4, Note::Memory),
     };
     let begun = Snapshot::of(&link);
-    let (link, end, past) = serve_link(alloc, prepared, link);
-    let (status, note) = status_of(end);
+    let clock = host.clock();
+    let session = serve_link(alloc, prepared, &extensions, clock, link);
+    let (status, note) = status_of(session.end);
     Ran {
         status,
         note,
         begun: Some(begun),
-        link: Some(link),
-        end: Some(end),
-        past,
+        link: Some(session.link),
+        end: Some(session.end),
+        clock: Some(session.clock),
+        past: session.past,
     }
 }

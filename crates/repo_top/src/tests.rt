@@ -1,7 +1,9 @@
 //! Whole runs over memory: worked rows, cuts, lengths of reads and writes, and faults at each call.
 use super::*;
+use crate::command::command_of;
 use doip_json::Str;
 use doip_segment::Reason;
+use ext_ops::Extensions;
 use link_core::{MemoryHost, MemoryLink, Script};
 use std::alloc::{AllocError, Global};
 use std::test::Fail;
@@ -38,7 +40,7 @@ fn run(alloc: Global, texts: &[&str], link: MemoryLink) -> Result<Ran<MemoryHost
     let mut host = MemoryHost::new(alloc);
     host.add_console(link)?;
     let words = arguments(alloc, texts)?;
-    Ok(run_plain(alloc, &words, &mut host))
+    Ok(run_plain(alloc, &words, &mut host, Extensions::none(alloc)))
 }
 
 // IsRunOf `answer 35.TEST/svc` over these bytes.
@@ -207,10 +209,10 @@ fn two_sessions_run_one_after_another(rt: HostRuntime) -> Result<(), Fail> {
     host.add_console(MemoryLink::of(alloc, HELLO)?)?;
     let words = arguments(alloc, &["answer", "35.TEST/svc"])?;
     for _ in 0..2 {
-        let ran = run_plain(alloc, &words, &mut host);
+        let ran = run_plain(alloc, &words, &mut host, Extensions::none(alloc));
         assert_eq!(rt; (ran.status, written(&ran)), (0, DONE));
     }
-    let none = run_plain(alloc, &words, &mut host);
+    let none = run_plain(alloc, &words, &mut host, Extensions::none(alloc));
     assert_eq!(rt; (none.status, none.note, none.end), (9, Note::Host, None));
     assert_eq!(rt; host.console_calls(), 3);
     Ok(())
@@ -230,6 +232,8 @@ fn an_invalid_command_line_is_refused(rt: HostRuntime) -> Result<(), Fail> {
         &["answer", "s", "--port", "+1"],
         &["answer", "s", "--port", "01"],
         &["answer", "s", "--port", "1", "--port", "2"],
+        &["answer", "s", "--accounts"],
+        &["answer", "s", "--accounts", "a", "--accounts", "b"],
         &["answer", "s", "--request", "63"],
         &["answer", "s", "--request", "16777217"],
         &["answer", "s", "--lanes", "1"],
@@ -255,6 +259,46 @@ fn an_invalid_command_line_is_refused(rt: HostRuntime) -> Result<(), Fail> {
             b"{\"output\":{\"attributes\":{\"ipAddress\":\"::1\",\"port\":65535,".as_slice()
         )
     );
+    Ok(())
+}
+
+// The accounts file of a command, "none" without one, and "invalid" of an invalid command line.
+fn accounts_file<'a>(words: &'a Words) -> &'a str {
+    match command_of(words) {
+        Some(command) => match command.accounts {
+            Some(file) => file,
+            None => "none",
+        },
+        None => "invalid",
+    }
+}
+
+#[test]
+fn a_command_has_its_accounts_file(rt: HostRuntime) -> Result<(), Fail> {
+    let alloc = rt.alloc();
+    let rows: &[(&[&str], &str)] = &[
+        (&["answer", "s"], "none"),
+        (&["answer", "s", "--accounts"], "invalid"),
+        (&["answer", "s", "--accounts", "a"], "a"),
+        (&["answer", "s", "--accounts", ""], ""),
+        (
+            &["answer", "s", "--accounts", "--port", "--port", "1"],
+            "--port",
+        ),
+        (&["answer", "s", "--address", "b", "--accounts", "a"], "a"),
+        (
+            &["answer", "s", "--accounts", "a", "--accounts", "b"],
+            "invalid",
+        ),
+        (
+            &["answer", "s", "--accounts", "a", "--accounts", "a"],
+            "invalid",
+        ),
+    ];
+    for (texts, file) in rows {
+        let words = arguments(alloc, texts)?;
+        assert_eq!(rt; accounts_file(&words), *file);
+    }
     Ok(())
 }
 

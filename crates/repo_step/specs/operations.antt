@@ -1,0 +1,10 @@
+pub mod Names
+pub mod Shared
+pub mod Mint
+pub mod Limits
+pub mod Create
+pub mod Retrieve
+pub mod Update
+pub mod Delete
+pub mod ListOperations
+pub mod Extended
