@@ -30,4 +30,4 @@ pub use change::{Change, RecordFault};
 pub use format::{Format, MOST_COUNTER};
 pub use law::bodies_decide_changes;
 pub use reading::{change_of, change_of_first};
-pub use writing::{body_length, body_of};
+pub use writing::{body_length, body_of, put_body_of};

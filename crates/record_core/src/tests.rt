@@ -1,7 +1,10 @@
 //! What no clause says: bytes that were put together by another program, and each field of a body damaged once.
 ghost use Rattle.record_core.specs.Storable.{IsStorable};
 
-use crate::{Change, MOST_COUNTER, RecordFault, body_length, body_of, change_of, change_of_first};
+use crate::{
+    Change, MOST_COUNTER, RecordFault, body_length, body_of, change_of, change_of_first,
+    put_body_of,
+};
 use std::alloc::Global;
 use std::test::Fail;
 
@@ -66,7 +69,21 @@ fn has_body(alloc: Global, change: &Change, bytes: &[u8]) -> Result<bool, Fail>
     requires { IsStorable change.now }
 {
     let body = body_of(alloc, change)?;
-    Ok(body.get() == bytes && body_length(change) == bytes.len() as u64)
+    let is_same = is_body_of_lent(alloc, change, bytes)?;
+    Ok(is_same && body.get() == bytes && body_length(change) == bytes.len() as u64)
+}
+
+// Whether a put whose object is lent has this body.
+fn is_body_of_lent(alloc: Global, change: &Change, bytes: &[u8]) -> Result<bool, Fail>
+    requires { IsStorable change.now }
+{
+    match change {
+        Change::Put { object, counter } => {
+            let body = put_body_of(alloc, object, *counter)?;
+            Ok(body.get() == bytes)
+        }
+        _ => Ok(true),
+    }
 }
 
 // Whether the change is a put for which the test passes.

@@ -6,6 +6,7 @@ ghost use Rattle.dobj_model.specs.Shown.{shown_form};
 ghost use Rattle.record_core.specs.Body.{body, head, payload};
 ghost use Rattle.record_core.specs.Numbers.{in_two, in_four, in_eight};
 ghost use Rattle.record_core.specs.Storable.{IsStorable, IsChange};
+ghost use Rattle.record_core.specs.declared.change.Change.TheVariants.{Put};
 
 use crate::change::Change;
 use crate::format::{COUNTER, PUT, REMOVE};
@@ -74,6 +75,23 @@ pub fn body_of(alloc: Global, change: &Change) -> Result<Bytes, AllocError>
         Change::Remove { id } => write_removal(id, &mut out)?,
         Change::Counter { n } => write_counter(*n, &mut out)?,
     }
+    Ok(Bytes::from(out))
+}
+
+/// The body of the put of an object that is lent: what [`body_of`] gives of it as a change, in as much memory.
+pub fn put_body_of(
+    alloc: Global,
+    object: &Object,
+    counter: Option<u64>,
+) -> Result<Bytes, AllocError>
+    requires storable { IsStorable (Put object.now counter) }
+    ensures body { IfOk result (λ bytes. bytes ≡ body (Put object.now counter)) }
+    ensures change_is { IsChange (Put object.now counter) }
+{
+    recall(object);
+    let mut out = Vec::new(alloc);
+    out.reserve((17 + 2 * shown_length(object) + payloads_length(object.elements())) as usize)?;
+    write_put(alloc, object, counter.unwrap_or(0), &mut out)?;
     Ok(Bytes::from(out))
 }
 

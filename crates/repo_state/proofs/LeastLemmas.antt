@@ -61,7 +61,7 @@ below_below a b c = by (id_cmp a b) refl (id_cmp b c) refl
 
 module _ {X : Type 0} where
   -- what is found in a list is above each key that is below all of the list
-  below_found : (x k : List ℕ) (v : X) (es : List (List ℕ × X)) → T (below_all id_cmp x es) → finite.find id_cmp k es ≡ Some v → is_lt (id_cmp x k) ≡ true
+  pub below_found : (x k : List ℕ) (v : X) (es : List (List ℕ × X)) → T (below_all id_cmp x es) → finite.find id_cmp k es ≡ Some v → is_lt (id_cmp x k) ≡ true
   below_found x k v [] h f = absurd (no_some v (sym f))
   below_found x k v (e ∷ es) h f = by (below_found x k v es (both_of (is_lt (id_cmp x e.0)) _ h).1) (eq_by_cmp id_cmp k e.0) refl f
     where

@@ -11,7 +11,7 @@ use Rattle.repo_state.specs.Least.{id_cmp}
 use Rattle.repo_state.specs.Contents.{Objects, Contents, contents, apply}
 use Rattle.repo_state.specs.Rows.{Row, objects_in}
 use Rattle.repo_state.specs.Sound.{IsConsistent, IsSound, is_sound_in, least_unsound}
-use Rattle.repo_state.proofs.LeastLemmas.{least_none}
+use Rattle.repo_state.proofs.LeastLemmas.{least_none, least_passes}
 use Rattle.repo_state.proofs.Named.{nothing_there, some_same, named_put, named_removed}
 
 -- a repository that holds nothing keeps all that it must
@@ -30,6 +30,16 @@ not_false false h = absurd (true≢false h)
 -- where no object is the least that isn't sound, all are
 pub sound_from_none : (m : Objects) → None ≡ least_unsound m → IsSound m
 sound_from_none m e id o is = not_false _ (least_none (λ id o. not (is_sound_in m o)) m (sym e) id o is)
+
+-- where all objects are sound, none is the least that isn't
+pub none_from_sound : (m : Objects) → IsSound m → least_unsound m ≡ None
+none_from_sound m sound = by (least_unsound m) refl
+  where
+    by : (r : Option (List ℕ)) → least_unsound m ≡ r → r ≡ None
+    by None e = refl
+    by (Some id) e =
+        let r = least_passes (λ id o. not (is_sound_in m o)) m id e in
+        absurd (true≢false (sym r.2 ∙ ap not (sound id r.0 r.1)))
 
 -- a sound object that is put leaves each object sound
 sound_put : (m : Objects) (k : List ℕ) (v : ObjectValue) → is_sound_in m v ≡ true → IsSound m → IsSound (finite.insert m k v)

@@ -4,6 +4,8 @@ pub mod Groups
 pub mod Sound
 pub mod Types
 pub mod Held
+pub mod Recorded
+pub mod Compacted
+pub mod Replayed
 pub mod Rows
 pub mod Codes
-pub mod Replayed

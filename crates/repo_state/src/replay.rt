@@ -1,17 +1,19 @@
 //! A table from the changes that made it.
-ghost use Rattle.std.specs.Prelude.{◌≡◌, None, option_map, not, OnOk, IfOk, IfErr};
+ghost use Rattle.std.specs.Prelude.{◌≡◌, ◌≤◌, ◌↔◌, None, option_map, not, IsTrue, OnOk, OnErr, IfOk, IfErr};
+ghost use Rattle.record_core.specs.Reading.{Reads};
 ghost use Rattle.record_core.specs.Storable.{IsStorable};
+ghost use Rattle.record_core.specs.declared.format.Format.TheVariants.{First, Second};
 ghost use Rattle.repo_state.specs.Least.{lesser};
 ghost use Rattle.repo_state.specs.Contents.{Objects, no_contents, apply};
 ghost use Rattle.repo_state.specs.Rows.{objects_in};
 ghost use Rattle.repo_state.specs.Sound.{is_sound_in, least_unsound};
-ghost use Rattle.repo_state.specs.Replayed.{IsFaultOf};
+ghost use Rattle.repo_state.specs.Replayed.{IsFaultOf, Takes, migrated};
 
 use crate::Table;
 use crate::rows::Rows;
 use dobj_model::{Id, Object};
 use journal_core::Stamp;
-use record_core::Change;
+use record_core::{Change, Format, RecordFault, change_of, change_of_first};
 use std::alloc::{AllocError, Global};
 use std::marker::Model;
 
@@ -21,6 +23,11 @@ const PLAIN: &str = "0.TYPE/DO";
 /// Why no table comes of changes.
 #[derive(Debug, Drop)]
 pub enum ReplayFault {
+    /// The record at this place, from 0, is the first whose body is that of no change.
+    NotARecord {
+        /// The place.
+        index: usize,
+    },
     /// The object of this identifier isn't sound after all changes, and no lesser one is so.
     Unsound {
         /// The identifier.
@@ -83,7 +90,8 @@ impl Replay {
     /// Makes the next change.
     pub fn change(&mut self, stamp: Stamp, change: Change) -> Result<(), AllocError>
         requires { IsStorable change }
-        ensures { OnOk result (self.new ≡ apply (record { stamp = stamp; change = change }) self.old) }
+        ensures made { OnOk result (self.new ≡ apply (record { stamp = stamp; change = change }) self.old) }
+        ensures err { OnErr result (self.new ≡ self.old) }
     {
         match change {
             Change::Put { object, counter } => {
@@ -97,6 +105,63 @@ impl Replay {
         }
         self.number = stamp.number;
         Ok(())
+    }
+
+    /// Makes the change of a record, as a journal gives it. Whether its object is sound isn't asked: what it needs may
+    /// come later.
+    ///
+    /// # Errors
+    /// `NotARecord` exactly when the body is that of no change, and out of memory. Nothing is made then.
+    pub fn record(&mut self, stamp: Stamp, body: &[u8]) -> Result<(), RecordFault>
+        ensures { Takes Second stamp body.now self.old self.new result }
+    {
+        self.take(stamp, body, Format::Second)
+    }
+
+    /// The same of a record of format 1, whose object has the times 0.
+    pub fn first_record(&mut self, stamp: Stamp, body: &[u8]) -> Result<(), RecordFault>
+        ensures { Takes First stamp body.now self.old self.new result }
+    {
+        self.take(stamp, body, Format::First)
+    }
+
+    // Makes the change of a record, in this format.
+    pub(crate) fn take(
+        &mut self,
+        stamp: Stamp,
+        body: &[u8],
+        format: Format,
+    ) -> Result<(), RecordFault>
+        ensures { Takes format stamp body.now self.old self.new result }
+    {
+        let change = change_in(self.alloc, body, format)?;
+        self.change(stamp, change)?;
+        Ok(())
+    }
+
+    /// Whether a record with this stamp comes in order: its number is no less than that of the last change.
+    pub fn follows(&self, stamp: Stamp) -> bool
+        ensures { IsTrue result ↔ (self.now.number ≤ stamp.number) }
+    {
+        self.number <= stamp.number
+    }
+
+    /// The same with the number 1, which a repository has whose journal was of format 1.
+    pub fn migrated(self) -> Replay
+        ensures { result ≡ migrated self }
+    {
+        let Replay {
+            alloc,
+            rows,
+            counter,
+            number: _,
+        } = self;
+        Replay {
+            alloc,
+            rows,
+            counter,
+            number: 1,
+        }
     }
 
     /// The table, exactly when all objects are sound among one another.
@@ -121,6 +186,16 @@ impl Replay {
             };
         }
         Ok(Table::of(alloc, rows, counter, number))
+    }
+}
+
+// The change of a body, in this format.
+fn change_in(alloc: Global, body: &[u8], format: Format) -> Result<Change, RecordFault>
+    ensures { Reads format body.now result }
+{
+    match format {
+        Format::First => change_of_first(alloc, body),
+        Format::Second => change_of(alloc, body),
     }
 }
 

@@ -1,14 +1,18 @@
 //! The table.
-ghost use Rattle.std.specs.Prelude.{◌≡◌, ◌≤◌, ◌<◌, length, map, OnOk, option_map};
+ghost use Rattle.std.specs.Prelude.{◌≡◌, ◌≤◌, ◌<◌, length, map, OnOk, IfOk, option_map};
 ghost use Rattle.std.specs.FinMap as finite;
 ghost use Rattle.repo_state.specs.Contents.{Stamped, no_contents, contents, apply};
 ghost use Rattle.repo_state.specs.Sound.{IsConsistent};
 ghost use Rattle.repo_state.specs.Held.{HasRoom};
+ghost use Rattle.repo_state.specs.Compacted.{compacted};
+ghost use Rattle.repo_state.specs.Recorded.{AreRecordsOf};
+ghost use Rattle.record_core.specs.declared.format.Format.TheVariants.{Second};
 ghost use Rattle.repo_state.specs.Rows.{objects_in};
 
+use crate::Compacted;
 use crate::rows::Rows;
 use dobj_model::Object;
-use journal_core::Stamp;
+use journal_core::{Records, Stamp};
 use record_core::Change;
 use std::alloc::{AllocError, Global};
 use std::marker::Model;
@@ -102,6 +106,20 @@ impl Table {
         ensures consistent { IsConsistent self.now.contents }
     {
         self.rows.get(id)
+    }
+
+    /// The records that a compacted journal holds, which are made one at a time.
+    pub fn compacted(&self) -> Result<Compacted<'_>, AllocError>
+        ensures { IfOk result (λ list. list ≡ compacted self.now.contents) }
+    {
+        Compacted::of(self.alloc, self.number, self.counter, &self.rows)
+    }
+
+    /// The same records, all at once.
+    pub fn records(&self) -> Result<Records, AllocError>
+        ensures { IfOk result (λ records. AreRecordsOf Second records (compacted self.now.contents)) }
+    {
+        self.compacted()?.records()
     }
 
     /// Takes all memory that the change needs.

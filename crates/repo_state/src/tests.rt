@@ -9,6 +9,8 @@ use record_core::Change;
 use std::alloc::{AllocError, Global};
 use std::test::Fail;
 
+mod records;
+
 fn map_of(alloc: Global, text: &str) -> Result<JsonMap, Fail> {
     match read(alloc, text.as_bytes(), 60)? {
         Json::Table(map) => Ok(map),
