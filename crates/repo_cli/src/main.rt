@@ -2,7 +2,8 @@
 //! standard error, and ends with the status. All that matters is in `repo_top`.
 #![tactic(auto)]
 
-ghost use Rattle.std.specs.Prelude.{◌≡◌, ◌≢◌};
+ghost use Rattle.std.specs.Prelude.{◌≡◌, ◌≢◌, IfOk};
+ghost use Rattle.dobj_model.specs.Name.{IsName};
 ghost use Rattle.std.specs.IoError.{error_kind};
 
 mod clock;
@@ -19,8 +20,11 @@ mod tests;
 
 use crate::host::RealHost;
 use crate::note::{file_name, line_of};
-use doip_json::Str;
-use ext_ops::Extensions;
+use dobj_model::{Id, Object};
+use doip_json::{Json, JsonMap, Str};
+use ext_ops::{
+    ExtCode, ExtFault, Extension, Extensions, HookCode, WriteHook, count, digest, pick, trim,
+};
 use repo_top::{Note, Words, run_plain};
 use std::alloc::{AllocError, Global};
 use std::io::ErrorKind;
@@ -49,7 +53,7 @@ fn read_invocation(rt: &HostRuntime, alloc: Global) -> io::Result<Invocation> {
 }
 
 // Prints the line of a note, with what the system said. If that fails there is nobody to report it to.
-fn print_note(rt: &HostRuntime, program: &str, note: Note, cause: Option<&io::Error>) {
+fn print_note(rt: &HostRuntime, program: &str, note: &Note, cause: Option<&io::Error>) {
     if let Some(line) = line_of(program, note, cause) {
         let _ = eprintln!(rt; "{line}");
     }
@@ -67,26 +71,93 @@ fn status_without_arguments(error: &io::Error) -> (u8, Note)
     }
 }
 
+// The identifier of an operation or the name of a hook.
+fn named(alloc: Global, name: &str) -> Result<Id, AllocError>
+    requires { IsName name.now }
+    ensures { IfOk result (λ id. id ≡ name.now) }
+{
+    match Id::of(alloc, name)? {
+        Some(id) => Ok(id),
+        None => unreachable!(),
+    }
+}
+
+// The names differ, so there is no other fault than out of memory.
+fn added(outcome: Result<(), ExtFault>) -> Result<(), AllocError> {
+    match outcome {
+        Ok(()) => Ok(()),
+        Err(_) => Err(AllocError),
+    }
+}
+
+// Runs the command with the program's own extensions and hooks: the status. Each closure is boxed here, where its proof
+// sees which one it is; docs/EXTENDING.md adds another.
+fn run_extended(
+    rt: &HostRuntime,
+    alloc: Global,
+    invocation: &Invocation,
+) -> Result<u8, AllocError> {
+    let mut extensions = Extensions::none(alloc);
+    added(extensions.add(Extension {
+        code: ExtCode::Digest,
+        operation: named(alloc, "ext/Op.Digest")?,
+        call: Box::new(
+            alloc,
+            move |object: &Object, arguments: &JsonMap| digest(alloc, object, arguments),
+        )?,
+    }))?;
+    added(extensions.add(Extension {
+        code: ExtCode::Pick,
+        operation: named(alloc, "ext/Op.Pick")?,
+        call: Box::new(
+            alloc,
+            move |object: &Object, arguments: &JsonMap| pick(alloc, object, arguments),
+        )?,
+    }))?;
+    added(extensions.add_hook(WriteHook {
+        code: HookCode::Trim,
+        name: named(alloc, "trim")?,
+        call: Box::new(alloc, move |content: &Json| trim(alloc, content))?,
+    }))?;
+    added(extensions.add_hook(WriteHook {
+        code: HookCode::Count,
+        name: named(alloc, "count")?,
+        call: Box::new(alloc, move |content: &Json| count(alloc, content))?,
+    }))?;
+    Ok(run(rt, alloc, invocation, extensions))
+}
+
+// Runs the command over the real host, and prints what there is to note: the status.
+fn run(rt: &HostRuntime, alloc: Global, invocation: &Invocation, extensions: Extensions) -> u8 {
+    let mut host = RealHost::new(rt, alloc, rt.stdin(), rt.stdout());
+    let ran = run_plain(alloc, &invocation.arguments, &mut host, extensions);
+    let program = file_name(invocation.path.get());
+    match &ran.note {
+        Note::Host => print_note(rt, program, &ran.note, host.last_fault()),
+        Note::End(_) => match &ran.link {
+            Some(link) => print_note(rt, program, &ran.note, link.last_fault()),
+            None => print_note(rt, program, &ran.note, None),
+        },
+        _ => print_note(rt, program, &ran.note, None),
+    }
+    ran.status
+}
+
 fn main(rt: HostRuntime) -> ExitCode {
     let alloc = rt.alloc();
     let invocation = match read_invocation(&rt, alloc) {
         Ok(invocation) => invocation,
         Err(error) => {
             let (status, note) = status_without_arguments(&error);
-            print_note(&rt, "zenkawi", note, None);
+            print_note(&rt, "zenkawi", &note, None);
             return ExitCode::from(status);
         }
     };
-    let mut host = RealHost::new(&rt, alloc, rt.stdin(), rt.stdout());
-    let ran = run_plain(alloc, &invocation.arguments, &mut host, Extensions::none(alloc));
-    let program = file_name(invocation.path.get());
-    match ran.note {
-        Note::Host => print_note(&rt, program, ran.note, host.last_fault()),
-        Note::End(_) => match &ran.link {
-            Some(link) => print_note(&rt, program, ran.note, link.last_fault()),
-            None => print_note(&rt, program, ran.note, None),
-        },
-        _ => print_note(&rt, program, ran.note, None),
+    match run_extended(&rt, alloc, &invocation) {
+        Ok(status) => ExitCode::from(status),
+        Err(AllocError) => {
+            print_note(&rt, file_name(invocation.path.get()), &Note::Memory, None);
+            ExitCode::from(4)
+        }
     }
-    ExitCode::from(ran.status)
 }

@@ -12,12 +12,12 @@ const ANSWER: &str = "SERVICE [--address A] [--port N] [--accounts FILE] [--requ
 #[derive(Clone, Copy)]
 pub struct Line<'a> {
     program: &'a str,
-    note: Note,
+    note: &'a Note,
     cause: Option<&'a Error>,
 }
 
 /// The line of a note, `None` when there is nothing to note.
-pub fn line_of<'a>(program: &'a str, note: Note, cause: Option<&'a Error>) -> Option<Line<'a>> {
+pub fn line_of<'a>(program: &'a str, note: &'a Note, cause: Option<&'a Error>) -> Option<Line<'a>> {
     match note {
         Note::Nothing => None,
         note => Some(Line {
@@ -88,9 +88,16 @@ impl Line<'_> {
                 "invalid command line; usage: {} answer {ANSWER}",
                 self.program
             ),
-            Note::Host => f.write_str("standard input and output are not available"),
+            Note::Host => f.write_str(
+                "the accounts file, or standard input and output, could not be opened",
+            ),
+            Note::File { path } => write!(
+                f,
+                "{} is no accounts file; docs/FORMATS.md says what one is",
+                path.get()
+            ),
             Note::Memory => f.write_str("out of memory"),
-            Note::End(end) => write_end(end, f),
+            Note::End(end) => write_end(*end, f),
         }
     }
 }

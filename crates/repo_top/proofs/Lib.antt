@@ -2,4 +2,5 @@ pub mod Numbers
 pub mod CommandLemmas
 pub mod SessionLemmas
 pub mod LawLemmas
+pub mod FileLemmas
 pub mod RunLemmas

@@ -1,4 +1,5 @@
 pub mod Command
+pub mod AccountsFile
 pub mod Session
 pub mod Run
 pub mod Taking

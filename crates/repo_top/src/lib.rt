@@ -7,6 +7,7 @@
 //! A contract sees of `Words` the list of the arguments, and of `Ran::past` the list of the entries of the history.
 #![tactic(auto)]
 
+mod accounts;
 mod alone;
 mod command;
 mod laws;
@@ -17,7 +18,7 @@ mod tests;
 
 pub use command::Words;
 pub use laws::outcomes_give_the_bytes;
-pub use outcome::{Note, Ran};
+pub use outcome::{NoSession, Note, Ran};
 pub use repo_step::Past;
 pub use run::run_plain;
 pub use session_core::SessionEnd;

@@ -1,11 +1,26 @@
 //! What a run leaves.
+use doip_json::Str;
 use link_core::Host;
 use repo_step::Past;
 use session_core::SessionEnd;
 use std::snapshot::Snapshot;
 
+/// Why a valid command has no session.
+#[derive(Debug, Drop)]
+pub enum NoSession {
+    /// The host failed.
+    Host,
+    /// The file of the accounts isn't one.
+    File {
+        /// Its path.
+        path: Str,
+    },
+    /// Out of memory.
+    Memory,
+}
+
 /// What there is to report of a run beside its status.
-#[derive(Clone, Copy, Debug, PartialEq, Eq)]
+#[derive(Debug, Drop)]
 pub enum Note {
     /// Nothing.
     Nothing,
@@ -13,6 +28,11 @@ pub enum Note {
     Words,
     /// The host failed.
     Host,
+    /// The file of the accounts isn't one.
+    File {
+        /// Its path.
+        path: Str,
+    },
     /// Out of memory.
     Memory,
     /// The session ended inside a message, at bytes that are no message, or at a fault of its link.

@@ -1,5 +1,5 @@
 //! The top call.
-ghost use Rattle.std.specs.Prelude.{◌≡◌, ◌≤◌, ◌⊎◌, [], min, is_some, option_map, IfOk, Some, None};
+ghost use Rattle.std.specs.Prelude.{◌≡◌, ◌≤◌, ◌⊎◌, [], min, is_some, option_map, IfOk, Option, Some, None};
 ghost use Rattle.std.specs.Option.{ForSome};
 ghost use Rattle.ext_ops.specs.Offered.{Offered, offered};
 ghost use Rattle.base_core.specs.Causes.{Rose};
@@ -9,11 +9,14 @@ ghost use Rattle.repo_top.specs.Command.{AreArgumentsOf, IsCommand, IsService, p
 ghost use Rattle.repo_top.specs.Taking.{command_in};
 ghost use Rattle.repo_step.specs.History.{session_pairs};
 ghost use Rattle.repo_top.specs.Session.{IsPast, HasTimesOf, first_state, setting_with};
-ghost use Rattle.repo_top.specs.Run.{IsRunOf, IsSetUp, IsServed, BeginsFresh, BeginsWithFirst, LinkCounted, CalledOnce, CallsNoOther, IsExit, IsInvalidExit, exit, CountsNoFault, status_at, note_at};
+ghost use Rattle.link_core.specs.Host.{Holdings};
+ghost use Rattle.repo_top.specs.AccountsFile.{AreAccounts};
+ghost use Rattle.repo_top.specs.Run.{IsExitOf, CallsFile, exit_without_session, IsRunOf, IsSetUp, IsServed, BeginsFresh, BeginsWithFirst, LinkCounted, CalledOnce, CallsNoOther, IsExit, IsInvalidExit, exit, CountsNoFault, status_at, note_at};
 
+use crate::accounts::accounts_in;
 use crate::alone::Alone;
 use crate::command::{AnswerArguments, command_of, prefix_of};
-use crate::{Note, Ran, Words};
+use crate::{NoSession, Note, Ran, Words};
 use acl_core::Accounts;
 use dobj_model::Id;
 use doip_json::Str;
@@ -71,8 +74,9 @@ fn prepare(
     accounts: Accounts,
 ) -> Result<Prepared, AllocError>
     requires { AreArgumentsOf (command_in command.now) words.now }
-    ensures set_up { IfOk result (λ p. (offers : Offered)
-        → IsSetUp words.now accounts offers (setting_of p.config offers) p.decoder.limits) }
+    ensures set_up { IfOk result (λ p. (holds : Option Holdings) (offers : Offered)
+        → AreAccounts (command_in command.now).accounts holds accounts
+        → IsSetUp words.now holds offers (setting_of p.config offers) p.decoder.limits) }
     ensures held { IfOk result (λ p. p.reader ≡ []) }
     ensures took { IfOk result (λ p. Took p.decoder []) }
     ensures place { IfOk result (λ p. p.decoder.taken ≡ 0) }
@@ -161,6 +165,33 @@ where
     }
 }
 
+// The status of a run that has no session, and what there is to note.
+fn status_without_session(reason: NoSession) -> (u8, Note)
+    ensures { exit result.0 result.1 ≡ exit_without_session reason }
+{
+    match reason {
+        NoSession::Host => (9, Note::Host),
+        NoSession::File { path } => (10, Note::File { path }),
+        NoSession::Memory => (4, Note::Memory),
+    }
+}
+
+// A run of a valid command that has no session.
+fn without_session<H: Host>(reason: NoSession) -> Ran<H>
+where
+    H::Link: Drop,
+    H::Clock: Drop,
+    ensures exit { exit result.status result.note ≡ exit_without_session reason }
+    ensures begun { result.begun ≡ None }
+    ensures link { result.link ≡ None }
+    ensures end { result.end ≡ None }
+    ensures clock { result.clock ≡ None }
+    ensures past { result.past ≡ [] }
+{
+    let (status, note) = status_without_session(reason);
+    ended_early(status, note)
+}
+
 // The status of a run whose session ended so, and what there is to note.
 fn status_of(end: SessionEnd) -> (u8, Note)
     ensures status { result.0 ≡ status_at end }
@@ -179,13 +210,15 @@ fn status_of(end: SessionEnd) -> (u8, Note)
 /// |---|---|---|
 /// | 2 | exactly when the command line is invalid | `Words` |
 /// | 9 | only if the host's count of faults rose | `Host` |
+/// | 10 | only if the file of `--accounts` is no accounts file | `File` |
 /// | 7 | only if the link's count of faults rose | `End` |
 /// | 4 | out of memory before the session | `Memory` |
 /// | 0 | otherwise | `End` after a cut or a framing fault, else `Nothing` |
 ///
-/// The arguments are `answer SERVICE [--address A] [--port N] [--request N]`: a service of 1 to 255 bytes, of which at
-/// most 200 come before the first `/`, and then options in any order, each at most once; a port from 1 to 65,535, a
-/// limit on the bytes of a request from 64 to 16,777,216. It replies to each message on the host's console, in order.
+/// The arguments are `answer SERVICE [--address A] [--port N] [--accounts FILE] [--request N]`: a service of 1 to 255
+/// bytes, of which at most 200 come before the first `/`, and then options in any order, each at most once; a port from
+/// 1 to 65,535, a limit on the bytes of a request from 64 to 16,777,216. The accounts are those that the file lists,
+/// which is read before the console is asked for, or none. It replies to each message on the host's console, in order.
 /// The repository holds nothing at first, and lasts as long as the session. An invalid command line leaves the host as
 /// it was.
 pub fn run_plain<H: Host>(
@@ -199,7 +232,8 @@ where
     H::Clock: Drop,
     // However the input is cut into reads, the messages are those that the grammar defines. Written are, in order, the
     // texts of the replies of one history of the one-thread repository, or a prefix of them if the link failed.
-    ensures session { IsRunOf H.Link.state words.now (offered extensions.operations extensions.hooks) result.past
+    ensures session { IsRunOf H.Link.state words.now (H.state host.old).holds
+        (offered extensions.operations extensions.hooks) result.past
         (option_map (λ s. s.value) result.begun) result.link result.end }
     ensures fresh { BeginsFresh H.Link.state (option_map (λ s. s.value) result.begun) }
     ensures first { BeginsWithFirst H.Link.state (H.state host.old).holds (option_map (λ s. s.value) result.begun) }
@@ -207,30 +241,37 @@ where
     ensures times { ForSome result.clock (λ clock. HasTimesOf (H.Clock.given clock) result.past) }
     ensures clock { is_some result.clock ≡ is_some result.link }
 
-    // Each status has its cause, and if no fault was counted a command has status 0, or 4 when out of memory.
-    ensures status { IsCommand words.now → IsExit H.Link.state (H.state host.old).faults (H.state host.new).faults
-        (exit result.status result.note) result.link result.end }
+    // Each status has its cause, and if no fault was counted a command has status 0, 10 for its accounts file, or 4 when
+    // out of memory.
+    ensures status { IsCommand words.now → IsExitOf H.Link.state words.now (H.state host.old).holds
+        (H.state host.old).faults (H.state host.new).faults (exit result.status result.note) result.link result.end }
     ensures invalid { ¬ IsCommand words.now → IsInvalidExit (exit result.status result.note) result.link result.end }
     ensures complete { IsCommand words.now → ¬ Rose (H.state host.old).faults (H.state host.new).faults
-        → CountsNoFault H.Link.state result.link → (result.status ≡ 0) ⊎ (result.status ≡ 4) }
+        → CountsNoFault H.Link.state result.link → (result.status ≡ 0) ⊎ ((result.status ≡ 4) ⊎ (result.status ≡ 10)) }
 
-    // `console` is called once at most, and what it handed out is returned.
+    // `console` is called once at most, and what it handed out is returned. `file` is called once at most, and only if an
+    // accounts file is named.
     ensures link { LinkCounted (H.state host.old).handed.links (H.state host.new).handed.links result.link }
     ensures calls { CalledOnce (H.state host.old).calls.console (H.state host.new).calls.console }
+    ensures file { CallsFile words.now (H.state host.old).calls.file (H.state host.new).calls.file }
     ensures others { CallsNoOther (H.state host.old).calls (H.state host.new).calls }
     ensures untouched { ¬ IsCommand words.now → host.new ≡ host.old }
 {
     let Some(command) = command_of(words) else {
         return ended_early(2, Note::Words);
     };
-    let prepared = match prepare(alloc, words, &command, Accounts::none(alloc)) {
+    let accounts = match accounts_in(alloc, command.accounts, host) {
+        Ok(accounts) => accounts,
+        Err(reason) => return without_session(reason),
+    };
+    let prepared = match prepare(alloc, words, &command, accounts) {
         Ok(prepared) => prepared,
-        Err(AllocError) => return ended_early(4, Note::Memory),
+        Err(AllocError) => return without_session(NoSession::Memory),
     };
     let link = match host.console() {
         Ok(link) => link,
-        Err(HostFault::Failed) => return ended_early(9, Note::Host),
-        Err(HostFault::Memory) => return ended_early(4, Note::Memory),
+        Err(HostFault::Failed) => return without_session(NoSession::Host),
+        Err(HostFault::Memory) => return without_session(NoSession::Memory),
     };
     let begun = Snapshot::of(&link);
     let clock = host.clock();
