@@ -13,6 +13,7 @@ mod host;
 mod link;
 mod listener;
 mod note;
+mod offered;
 mod opening;
 mod sink;
 #[cfg(test)]
@@ -20,11 +21,10 @@ mod tests;
 
 use crate::host::RealHost;
 use crate::note::{file_name, line_of};
+use crate::offered::{count_keys, digest_element, pick_value, trim_content};
 use dobj_model::{Id, Object};
 use doip_json::{Json, JsonMap, Str};
-use ext_ops::{
-    ExtCode, ExtFault, Extension, Extensions, HookCode, WriteHook, count, digest, pick, trim,
-};
+use ext_ops::{ExtCode, ExtFault, Extension, Extensions, HookCode, WriteHook};
 use repo_top::{Note, Words, run_plain};
 use std::alloc::{AllocError, Global};
 use std::io::ErrorKind;
@@ -103,7 +103,7 @@ fn run_extended(
         operation: named(alloc, "ext/Op.Digest")?,
         call: Box::new(
             alloc,
-            move |object: &Object, arguments: &JsonMap| digest(alloc, object, arguments),
+            move |object: &Object, arguments: &JsonMap| digest_element(alloc, object, arguments),
         )?,
     }))?;
     added(extensions.add(Extension {
@@ -111,18 +111,18 @@ fn run_extended(
         operation: named(alloc, "ext/Op.Pick")?,
         call: Box::new(
             alloc,
-            move |object: &Object, arguments: &JsonMap| pick(alloc, object, arguments),
+            move |object: &Object, arguments: &JsonMap| pick_value(alloc, object, arguments),
         )?,
     }))?;
     added(extensions.add_hook(WriteHook {
         code: HookCode::Trim,
         name: named(alloc, "trim")?,
-        call: Box::new(alloc, move |content: &Json| trim(alloc, content))?,
+        call: Box::new(alloc, move |content: &Json| trim_content(alloc, content))?,
     }))?;
     added(extensions.add_hook(WriteHook {
         code: HookCode::Count,
         name: named(alloc, "count")?,
-        call: Box::new(alloc, move |content: &Json| count(alloc, content))?,
+        call: Box::new(alloc, move |content: &Json| count_keys(alloc, content))?,
     }))?;
     Ok(run(rt, alloc, invocation, extensions))
 }
