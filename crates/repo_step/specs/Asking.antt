@@ -26,7 +26,8 @@ properties target operation attributes authentication input = record {
 
 -- the caller whom credentials name
 abbrev pub asked_caller : Setting → Option Value → Result Caller Refusal
-asked_caller setting authentication = found (caller_in setting.accounts authentication) AuthenticationRefused (λ caller. Ok caller)
+asked_caller setting authentication =
+    found (caller_in setting.accounts authentication) AuthenticationRefused (λ caller. Ok caller)
 
 -- a message is refused for this fault, unless it is out of memory
 abbrev pub IsInvalid : {X : Type 0} → Why → Result X Stop → Type 0

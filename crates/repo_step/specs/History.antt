@@ -1,12 +1,14 @@
 -- Histories of the one-thread repository, and the replies to them in one pass from state to state. This project's own.
-use Rattle.std.specs.Prelude.{◌≤◌, ℕ, List, [], ◌∷◌, ◌++◌, map, Bool, ◌&&◌, nat_eq, if◌then◌else◌, Option, Some, None, unwrap_or}
+use Rattle.std.specs.Prelude.{◌≡◌, ◌≤◌, ℕ, List, [], ◌∷◌, ◌++◌, map, Bool, ◌&&◌, nat_eq, if◌then◌else◌, Option, Some, None, IsSome, unwrap_or}
+use Rattle.std.specs.List.{AllByRecursion}
 use Rattle.doip_segment.specs.Segments.{Segment}
 use Rattle.doip_message.specs.Reply.{Replied, reply_text}
 use Rattle.doip_message.specs.Pairs.{Pair, pair}
-use Rattle.doip_message.specs.Fixed.{memory_reply}
+use Rattle.doip_message.specs.Fixed.{memory_reply, disk_reply, closed_reply}
+use Rattle.record_core.specs.declared.change.Change.{Change}
 use Rattle.repo_step.specs.declared.brought.Brought.{Brought}
 use Rattle.repo_step.specs.declared.outcome.Outcome.{Outcome}
-use Rattle.repo_step.specs.declared.outcome.Outcome.TheVariants.{Done, NoMemory}
+use Rattle.repo_step.specs.declared.outcome.Outcome.TheVariants.{Done, NoMemory, DiskFault, Closed}
 use Rattle.repo_step.specs.Setting.{Setting, State}
 use Rattle.repo_step.specs.Step.{Plan, step, after_change}
 
@@ -28,6 +30,8 @@ entries_up_to (Some parts) = parts.0 ++ parts.1 ∷ []
 abbrev pub fixed_reply : Outcome → Option Replied
 fixed_reply Done = None
 fixed_reply NoMemory = Some memory_reply
+fixed_reply DiskFault = Some disk_reply
+fixed_reply Closed = Some closed_reply
 
 -- the reply of an outcome, where the step's is this
 abbrev pub reply_with : Outcome → Replied → Replied
@@ -37,6 +41,8 @@ reply_with outcome made = unwrap_or (fixed_reply outcome) made
 abbrev pub state_with : Outcome → Brought → Plan → State → State
 state_with Done brought plan before = after_change brought plan.change before
 state_with NoMemory brought plan before = before
+state_with DiskFault brought plan before = before
+state_with Closed brought plan before = before
 
 -- the step of an entry
 abbrev pub step_of : Setting → State → Entry → Plan
@@ -103,6 +109,34 @@ MomentsFrom entry_of moment [] = Unit {0}
 MomentsFrom entry_of moment (a ∷ more) =
     (moment ≤ (entry_of a).moment) × MomentsFrom entry_of (entry_of a).moment more
 
--- What items that give an entry each keep as a history from a first state. Done and out of memory may come in every state.
+-- What the outcome of an entry asks of those after it: that they go on, or after a disk fault that each is closed. A
+-- disk fault comes only where the step has a change, and no other entry is closed.
+abbrev pub GoesOn : Outcome → Option Change → Type 0 → Type 0 → Type 0
+GoesOn Done change on closed = on
+GoesOn NoMemory change on closed = on
+GoesOn DiskFault change on closed = IsSome change × closed
+GoesOn Closed change on closed = ⊥
+
+-- every entry found the store closed
+abbrev pub AreClosed : {A : Type 0} → (A → Entry) → List A → Type 0
+AreClosed entry_of items = AllByRecursion (λ a. (entry_of a).outcome ≡ Closed) items
+
+-- each outcome is one that may come where it stands
+abbrev pub OutcomesFrom : {A : Type 0} → Setting → (A → Entry) → State → List A → Type 0
+OutcomesFrom setting entry_of state [] = Unit {0}
+OutcomesFrom setting entry_of state (a ∷ more) =
+    GoesOn (entry_of a).outcome (step_of setting state (entry_of a)).change
+    (OutcomesFrom setting entry_of (after setting state (entry_of a)) more) (AreClosed entry_of more)
+
+-- What items that give an entry each keep as a history from a first state: moments never fall, at most one entry met a
+-- disk fault, and those after it, and no others, are closed. Done and out of memory may come in every state before.
 pub record Legal {A : Type 0} (setting : Setting) (entry_of : A → Entry) (first : State) (items : List A) : Type 0 where
   pub moments : MomentsFrom entry_of 0 items
+  pub outcomes : OutcomesFrom setting entry_of first items
+
+-- the outcome is one of a turn without a disk: no disk fault, and never closed
+abbrev pub IsWhole : Outcome → Type 0
+IsWhole Done = Unit {0}
+IsWhole NoMemory = Unit {0}
+IsWhole DiskFault = ⊥
+IsWhole Closed = ⊥

@@ -53,8 +53,8 @@ IsAllOf lane session history = AllByRecursion (λ e. is_of lane session e ≡ tr
 abbrev pub NonePasses : (Entry → Bool) → List Entry → Type 0
 NonePasses passes history = AllByRecursion (λ e. passes e ≡ false) history
 
--- The change can be made in the state: it can be recorded, there is a number for it, its record finds room in the area,
--- and what it leaves is consistent.
+-- The change can be made in the state: its counter is in range, there is a number for it, its record finds room in the
+-- area, and what it leaves is consistent.
 pub record CanFollow (brought : Brought) (s : State) (change : Change) : Type 0 where
   pub storable : IsStorable change
   pub numbered : s.contents.number < last_number

@@ -4,7 +4,7 @@ ghost use Rattle.doip_message.specs.Reply.{reply_text};
 ghost use Rattle.repo_step.specs.History.{fixed_reply};
 
 use crate::Outcome;
-use doip_message::{MEMORY_TEXT, fixed_texts_are_replies};
+use doip_message::{CLOSED_TEXT, DISK_TEXT, MEMORY_TEXT, fixed_texts_are_replies};
 
 /// The text of the reply that the outcome fixes; `None` for `Done`, whose reply is the step's.
 pub fn fixed_text(outcome: Outcome) -> Option<&'static [u8]>
@@ -14,5 +14,7 @@ pub fn fixed_text(outcome: Outcome) -> Option<&'static [u8]>
     match outcome {
         Outcome::Done => None,
         Outcome::NoMemory => Some(MEMORY_TEXT),
+        Outcome::DiskFault => Some(DISK_TEXT),
+        Outcome::Closed => Some(CLOSED_TEXT),
     }
 }

@@ -40,7 +40,7 @@ pub fn equal_causes_give_equal_texts()
         ≡ session_pairs setting first other_lane other_session other }
 {}
 
-/// In a consistent repository each change of the step can be made: it can be recorded, there is a number for it, its
+/// In a consistent repository each change of the step can be made: its counter is in range, there is a number for it, its
 /// record finds room in the area, and the repository is consistent after it.
 pub fn steps_keep_consistency()
     ensures { (setting : Setting) (brought : Brought) (s : State) (message : List Segment) (change : Change)

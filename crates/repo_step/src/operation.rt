@@ -26,7 +26,8 @@ pub enum Operation {
 
 /// The operation that an identifier names: a basic one, or an extension's that isn't reserved.
 pub(crate) fn operation_in(extensions: &Extensions, name: &str) -> Option<Operation>
-    ensures { (setting : Setting) → setting.extensions.operations ≡ extensions.now.operations → result ≡ names.operation_in setting name.now }
+    ensures { (setting : Setting) → setting.extensions.operations ≡ extensions.now.operations
+        → result ≡ names.operation_in setting name.now }
 {
     match basic_operation(name) {
         Some(operation) => Some(operation),
@@ -63,7 +64,7 @@ fn extended_operation(extensions: &Extensions, name: &str) -> Option<Operation>
     }
 }
 
-/// Whether the identifier is one that no extension has: a basic one, or that of the list of changes.
+/// Whether no extension is reached under the identifier: it is one of DOIP 2.0, or that of the list of changes.
 pub(crate) fn is_reserved(name: &str) -> bool
     ensures { result ≡ names.is_reserved name.now }
 {

@@ -94,7 +94,8 @@ fn append_made(
     out: &mut Vec<u8>,
 ) -> Result<(), AllocError>
     ensures { OnOk result (out.new.items ≡ out.old.items
-        ++ reply_text (done (option_map (λ id. id.now) request_id.entry) (content_shown made.now.change made.now.shown))) }
+        ++ reply_text (done (option_map (λ id. id.now) request_id.entry)
+        (content_shown made.now.change made.now.shown))) }
 {
     match &made.shown {
         Shown::Nothing => append_nothing(alloc, request_id, out),

@@ -58,7 +58,8 @@ pub fn answer<'t>(
 ) -> Result<Planned<'t>, AllocError>
     requires short { AreShort message.now.segments }
     ensures plan { IfOk result (λ planned. planned_of planned
-        ≡ spec.step (setting_of config.now (offered extensions.now.operations extensions.now.hooks)) brought (state table.now.contents room) message.now.segments) }
+        ≡ spec.step (setting_of config.now (offered extensions.now.operations extensions.now.hooks)) brought
+        (state table.now.contents room) message.now.segments) }
 {
     let turn = Turn {
         alloc,
@@ -204,8 +205,8 @@ fn at_service<'t>(
     requires short { IsShort caller.now }
     requires brought { IsBroughtContent (content_of input) }
     ensures { (offers : Offered) → (asked : Properties) → asked.input ≡ content_of input
-        → Gives effect_of result (spec.offered (setting_in turn.entry offers) turn.entry.brought (state_in turn.entry) caller.now asked
-        (spec.offer_on operation at_service)) }
+        → Gives effect_of result (spec.offered (setting_in turn.entry offers) turn.entry.brought (state_in turn.entry)
+        caller.now asked (spec.offer_on operation at_service)) }
 {
     match operation {
         Operation::Hello => Ok(Made::showing(Shown::Information(turn.config))),

@@ -4,8 +4,8 @@ use acl_core::{Accounts, accounts_of};
 use dobj_model::{Element, Elements, Id, Metadata, Object, ObjectValue, TypeName};
 use doip_json::{Bytes, Json, JsonMap, Str, read};
 use doip_message::MEMORY_TEXT;
-use doip_segment::{Kind, Message};
-use ext_ops::{ExtCode, Extension, Extensions, digest, pick};
+use doip_segment::{Decoder, Limits, Message};
+use ext_ops::Extensions;
 use journal_core::{Room, Stamp};
 use record_core::Change;
 use repo_state::{Replay, Table};
@@ -33,15 +33,13 @@ fn config(alloc: Global) -> Result<Config, Fail> {
     Ok(Config::new(alloc, service, prefix, address, 9000, accounts(alloc)?)?)
 }
 
-// A message of one segment with these properties after those of the caller.
-fn message(alloc: Global, caller: &str, rest: &str) -> Result<Message, AllocError> {
+// The text of a request with these properties after those of the caller.
+fn request(alloc: Global, caller: &str, rest: &str) -> Result<String, AllocError> {
     let mut text = String::from_str(alloc, "{")?;
     text.push_str(caller)?;
     text.push_str(rest)?;
-    text.push_str("}")?;
-    let mut message = Message::empty(alloc);
-    message.push(Kind::Json, text.as_bytes())?;
-    Ok(message)
+    text.push_str("}\n#\n#\n")?;
+    Ok(text)
 }
 
 fn attributes(alloc: Global, text: &str) -> Result<JsonMap, Fail> {
@@ -80,25 +78,6 @@ fn id(alloc: Global, text: &str) -> Result<Id, Fail> {
     Ok(Id::of(alloc, text)?.ok_or("a name")?)
 }
 
-// The digest of an element, under the operation's usual name and under one of DOIP's own.
-fn extensions(alloc: Global) -> Result<Extensions, Fail> {
-    let mut extensions = Extensions::none(alloc);
-    for name in ["ext/Op.Digest", "0.DOIP/Op.Search"] {
-        let added = extensions.add(Extension {
-            code: ExtCode::Digest,
-            operation: id(alloc, name)?,
-            call: Box::new(
-                alloc,
-                move |object: &Object, arguments: &JsonMap| digest(alloc, object, arguments),
-            )?,
-        });
-        if added.is_err() {
-            return Err(Fail::from("twice"));
-        }
-    }
-    Ok(extensions)
-}
-
 // Objects that anyone may read (`o`), that alice may write (`w`), and that only the admin may use (`p`).
 fn table(alloc: Global, counter: u64, revision: u64) -> Result<Table, Fail> {
     let mut replay = Replay::new(alloc);
@@ -124,17 +103,27 @@ fn table(alloc: Global, counter: u64, revision: u64) -> Result<Table, Fail> {
     Ok(replay.finish().ok().ok_or("a table")?)
 }
 
-// The text of the reply, and whether there is a change.
+// The text of the reply to a request, and the change.
 fn replied(
     alloc: Global,
     table: &Table,
     room: Option<Room>,
-    message: &Message,
+    request: &str,
 ) -> Result<(Vec<u8>, Option<Change>), Fail> {
     let config = config(alloc)?;
-    let extensions = extensions(alloc)?;
+    let extensions = Extensions::none(alloc);
+    let limits = Limits {
+        json: 65_536,
+        total: 65_536,
+    };
+    let mut decoder = Decoder::new(alloc, limits)?;
+    decoder.feed(request.as_bytes());
+    if !decoder.stands() {
+        return Err(Fail::from("no message"));
+    }
     let mut out = Vec::new(alloc);
     let brought = Brought { time: 5 };
+    let message = decoder.message();
     let planned = answer(alloc, table, &config, &extensions, brought, room, message)?;
     planned.append(alloc, &mut out)?;
     Ok((out, planned.into_change()))
@@ -154,15 +143,14 @@ const REFUSALS: &str = r#"|101|field: targetId|"operationId":"0.DOIP/Op.Hello"
 wrong|102|authentication refused|"targetId":"x","operationId":"y"
 |200|operation unknown|"targetId":"x","operationId":"y"
 |200|operation unknown|"targetId":"35.TEST/o","operationId":"0.DOIP/Op.Search"
+|200|operation not offered here|"targetId":"35.TEST/svc","operationId":"0.DOIP/Op.Delete"
 |104|target unknown|"targetId":"x","operationId":"0.DOIP/Op.Create"
 |200|operation not offered here|"targetId":"35.TEST/o","operationId":"0.DOIP/Op.Hello"
-|200|operation not offered here|"targetId":"35.TEST/svc","operationId":"ext/Op.Digest"
 |102|authentication needed|"targetId":"35.TEST/p","operationId":"0.DOIP/Op.Retrieve"
 alice|103|not permitted|"targetId":"35.TEST/p","operationId":"0.DOIP/Op.ListOperations"
 alice|103|not permitted|"targetId":"35.TEST/o","operationId":"0.DOIP/Op.Delete"
 alice|103|not permitted|"targetId":"35.TEST/o","operationId":"0.DOIP/Op.Update"
 |101|argument: element|"targetId":"35.TEST/o","operationId":"0.DOIP/Op.Retrieve","attributes":{"element":"z"}
-|101|extension: element|"targetId":"35.TEST/o","operationId":"ext/Op.Digest","attributes":{}
 |101|input: missing|"targetId":"35.TEST/svc","operationId":"0.DOIP/Op.Create"
 |101|input: type|"targetId":"35.TEST/svc","operationId":"0.DOIP/Op.Create","input":{}
 |101|type unknown: x|"targetId":"35.TEST/svc","operationId":"0.DOIP/Op.Create","input":{"type":"x"}
@@ -189,8 +177,8 @@ fn is_refused(alloc: Global, table: &Table, row: &str) -> Result<bool, Fail> {
     let (caller, row) = row.split_once('|').ok_or("a caller")?;
     let (status, row) = row.split_once('|').ok_or("a status")?;
     let (words, rest) = row.split_once('|').ok_or("a message")?;
-    let message = message(alloc, credentials(caller), rest)?;
-    let (reply, change) = replied(alloc, table, None, &message)?;
+    let request = request(alloc, credentials(caller), rest)?;
+    let (reply, change) = replied(alloc, table, None, request.as_str())?;
     let text = refusal(alloc, status, words)?;
     Ok(reply.as_slice() == text.as_bytes() && change.is_none())
 }
@@ -205,7 +193,7 @@ fn refusals_come_in_order(rt: HostRuntime) -> Result<(), Fail> {
     Ok(())
 }
 
-// A change at its limits: the last revision, the last number for an identifier, and an area one byte too small.
+// A change at its limits: the last revision, and the last number for an identifier.
 #[test]
 fn limits_are_refused(rt: HostRuntime) -> Result<(), Fail> {
     let alloc = rt.alloc();
@@ -219,21 +207,22 @@ fn limits_are_refused(rt: HostRuntime) -> Result<(), Fail> {
     Ok(())
 }
 
+// An area one byte too small for the record, and one that has room.
 #[test]
 fn a_full_area_is_refused(rt: HostRuntime) -> Result<(), Fail> {
     let alloc = rt.alloc();
     let table = table(alloc, 1, 1)?;
-    let remove = message(
+    let remove = request(
         alloc,
         ADMIN,
         "\"targetId\":\"35.TEST/o\",\"operationId\":\"0.DOIP/Op.Delete\"",
     )?;
     let full = Some(Room { used: 1, area: 70 });
-    let (reply, change) = replied(alloc, &table, full, &remove)?;
+    let (reply, change) = replied(alloc, &table, full, remove.as_str())?;
     let text = refusal(alloc, "101", "limit: area, 1 used, 70 asked")?;
     assert!(rt; reply.as_slice() == text.as_bytes() && change.is_none());
     let fits = Some(Room { used: 1, area: 71 });
-    let (_, change) = replied(alloc, &table, fits, &remove)?;
+    let (_, change) = replied(alloc, &table, fits, remove.as_str())?;
     assert!(rt; change.is_some());
     Ok(())
 }
@@ -242,12 +231,12 @@ fn a_full_area_is_refused(rt: HostRuntime) -> Result<(), Fail> {
 fn a_new_object_is_shown(rt: HostRuntime) -> Result<(), Fail> {
     let alloc = rt.alloc();
     let table = table(alloc, 3, 1)?;
-    let create = message(
+    let create = request(
         alloc,
         ALICE,
         "\"requestId\":\"7\",\"targetId\":\"35.TEST/svc\",\"operationId\":\"0.DOIP/Op.Create\",\"input\":{\"type\":\"0.TYPE/DO\"}",
     )?;
-    let (reply, change) = replied(alloc, &table, None, &create)?;
+    let (reply, change) = replied(alloc, &table, None, create.as_str())?;
     assert_eq!(rt;
         reply.as_slice(),
         b"{\"output\":{\"attributes\":{\"metadata\":{\"createdBy\":\"alice\",\"createdOn\":5,\"modifiedBy\":\"alice\",\"modifiedOn\":5,\"revision\":1}},\"id\":\"35.TEST/3\",\"type\":\"0.TYPE/DO\"},\"requestId\":\"7\",\"status\":\"0.DOIP/Status.001\"}\n#\n#\n".as_slice()
@@ -256,8 +245,8 @@ fn a_new_object_is_shown(rt: HostRuntime) -> Result<(), Fail> {
     Ok(())
 }
 
-// The bytes of an element, and the names on an object, of which one that DOIP has itself is none of the extensions': the
-// properties and the reply of each, with `%` between them.
+// The bytes of an element, an object without and with the bytes of its elements, and the operations on an object and on
+// the service: the properties and the reply of each, with `%` between them.
 const SHOWN: &str =
     r#""targetId":"35.TEST/o","operationId":"0.DOIP/Op.Retrieve","attributes":{"element":"e"}|{"status":"0.DOIP/Status.001"}
 #
@@ -266,7 +255,21 @@ const SHOWN: &str =
 abc
 #
 #
-%"targetId":"35.TEST/o","operationId":"0.DOIP/Op.ListOperations"|{"output":["0.DOIP/Op.Delete","0.DOIP/Op.ListOperations","0.DOIP/Op.Retrieve","0.DOIP/Op.Update","ext/Op.Digest"],"status":"0.DOIP/Status.001"}
+%"targetId":"35.TEST/o","operationId":"0.DOIP/Op.Retrieve","attributes":{"includeElementData":"false"}|{"output":{"attributes":{"metadata":{"createdBy":"admin","createdOn":0,"modifiedBy":"admin","modifiedOn":0,"revision":1}},"elements":[{"id":"e","length":3}],"id":"35.TEST/o","type":"0.TYPE/DO"},"status":"0.DOIP/Status.001"}
+#
+#
+%"targetId":"35.TEST/o","operationId":"0.DOIP/Op.Retrieve","attributes":{"includeElementData":true}|{"status":"0.DOIP/Status.001"}
+#
+{"attributes":{"metadata":{"createdBy":"admin","createdOn":0,"modifiedBy":"admin","modifiedOn":0,"revision":1}},"elements":[{"id":"e","length":3}],"id":"35.TEST/o","type":"0.TYPE/DO"}
+#
+{"id":"e"}
+#
+@
+3
+abc
+#
+#
+%"targetId":"35.TEST/o","operationId":"0.DOIP/Op.ListOperations"|{"output":["0.DOIP/Op.Delete","0.DOIP/Op.ListOperations","0.DOIP/Op.Retrieve","0.DOIP/Op.Update"],"status":"0.DOIP/Status.001"}
 #
 #
 %"targetId":"35.TEST/svc","operationId":"0.DOIP/Op.ListOperations"|{"output":["0.DOIP/Op.Create","0.DOIP/Op.Hello","0.DOIP/Op.ListOperations"],"status":"0.DOIP/Status.001"}
@@ -280,7 +283,8 @@ fn stored_objects_are_shown(rt: HostRuntime) -> Result<(), Fail> {
     let table = table(alloc, 3, 1)?;
     for row in SHOWN.split('%') {
         let (rest, text) = row.split_once('|').ok_or("a reply")?;
-        let (reply, change) = replied(alloc, &table, None, &message(alloc, "", rest)?)?;
+        let request = request(alloc, "", rest)?;
+        let (reply, change) = replied(alloc, &table, None, request.as_str())?;
         assert!(rt;
             reply.as_slice() == text.as_bytes() && change.is_none(),
             "{rest}"
@@ -291,7 +295,7 @@ fn stored_objects_are_shown(rt: HostRuntime) -> Result<(), Fail> {
 
 #[test]
 fn a_history_keeps_entries_of_any_session(rt: HostRuntime) -> Result<(), Fail> {
-    let message = message(rt.alloc(), "", "")?;
+    let message = Message::empty(rt.alloc());
     let mut past = Past::empty();
     let first = Brought { time: 0 };
     past.add(Entry::new(0, 0, &message, Outcome::Done, 0, first));

@@ -6,7 +6,7 @@ use Rattle.doip_segment.specs.Segments.{Segment}
 use Rattle.doip_message.specs.Reply.{reply_text}
 use Rattle.doip_message.specs.Pairs.{pair}
 use Rattle.repo_step.specs.declared.outcome.Outcome.{Outcome}
-use Rattle.repo_step.specs.declared.outcome.Outcome.TheVariants.{Done, NoMemory}
+use Rattle.repo_step.specs.declared.outcome.Outcome.TheVariants.{Done, NoMemory, DiskFault, Closed}
 use Rattle.repo_step.specs.Setting.{Setting, State, state}
 use Rattle.repo_step.specs.Step.{step, after_change}
 use Rattle.repo_step.specs.declared.brought.Brought.{Brought}
@@ -18,7 +18,7 @@ use Rattle.ext_ops.specs.declared.code.ExtCode.{ExtCode}
 use Rattle.ext_ops.specs.declared.code.HookCode.{HookCode}
 use Rattle.doip_message.specs.Fixed.{memory_reply}
 use Rattle.doip_message.specs.Reading.{request}
-use Rattle.repo_step.specs.History.{Entry, Exchange, MomentsFrom, after, fixed_reply, is_of, state_after, pair_of, exchange_of, exchanges_of, session_pairs, state_of}
+use Rattle.repo_step.specs.History.{Entry, Exchange, IsWhole, MomentsFrom, OutcomesFrom, GoesOn, AreClosed, after, step_of, fixed_reply, is_of, state_after, pair_of, exchange_of, exchanges_of, session_pairs, state_of}
 use Rattle.repo_step.specs.Step.{request_id_of, attempt}
 use Rattle.repo_step.proofs.FixedLemmas.{plan_is_none}
 use Rattle.repo_step.proofs.Histories.{exchanges_more, pairs_more, state-append}
@@ -55,12 +55,33 @@ never_fall : (m : ℕ) (es : List Entry) → m ≡ 0 → AllByRecursion (λ e. e
 never_fall m [] zero all = tt
 never_fall m (e ∷ es) zero all = (omega (arith, zero, all.0), never_fall e.moment es all.0 all.1)
 
+-- outcomes without disk faults may come anywhere
+goes_on : (outcome : Outcome) (change : Option Change) (on closed : Type 0) → IsWhole outcome → on
+    → GoesOn outcome change on closed
+goes_on Done change on closed whole o = o
+goes_on NoMemory change on closed whole o = o
+goes_on DiskFault change on closed whole o = absurd whole
+goes_on Closed change on closed whole o = absurd whole
+
+whole_goes_on : (setting : Setting) (s : State) (es : List Entry) → AllByRecursion (λ e. IsWhole e.outcome) es
+    → OutcomesFrom setting (λ e. e) s es
+whole_goes_on setting s [] whole = tt
+whole_goes_on setting s (e ∷ es) whole =
+    goes_on e.outcome (step_of setting s e).change (OutcomesFrom setting (λ e. e) (after setting s e) es)
+    (AreClosed (λ e. e) es) whole.0 (whole_goes_on setting (after setting s e) es whole.1)
+
 own : (lane session : ℕ) (message : List Segment) (outcome : Outcome) (brought : Brought)
     → is_of lane session (turn_of lane session message outcome brought) ≡ true
 own lane session message outcome brought = rw (eq-eqb lane lane refl, eq-eqb session session refl) refl
 
 pub no_turn : (setting : Setting) (lane session : ℕ) (es : List Entry) → es ≡ [] → IsPast setting lane session es
-no_turn setting lane session [] is = record { legal = record { moments = tt }; no_other = tt; moments = tt; causes = tt }
+no_turn setting lane session [] is = record {
+  legal = record { moments = tt; outcomes = tt };
+  no_other = tt;
+  moments = tt;
+  whole = tt;
+  causes = tt;
+}
 no_turn setting lane session (e ∷ es) is = absurd (cc is)
 
 -- what the text for out of memory says of an exchange
@@ -69,30 +90,37 @@ HasCause x = reply_text x.reply ≡ reply_text memory_reply → x.entry.outcome 
 
 -- a turn has its cause: no step's reply is that text
 turn_cause : (setting : Setting) (s : State) (lane session : ℕ) (message : List Segment) (outcome : Outcome) (brought : Brought)
-    → HasCause (exchange_of setting s (turn_of lane session message outcome brought))
-turn_cause setting s lane session message Done brought =
+    → IsWhole outcome → HasCause (exchange_of setting s (turn_of lane session message outcome brought))
+turn_cause setting s lane session message Done brought whole =
     λ same. absurd ((plan_is_none (request_id_of (request message)) (attempt setting brought s (request message))).memory same)
-turn_cause setting s lane session message NoMemory brought = λ same. refl
+turn_cause setting s lane session message NoMemory brought whole = λ same. refl
+turn_cause setting s lane session message DiskFault brought whole = absurd whole
+turn_cause setting s lane session message Closed brought whole = absurd whole
 
 -- the state that a turn leaves
 left : (setting : Setting) (lane session : ℕ) (message : List Segment) (outcome : Outcome) (brought : Brought) (holds later : Contents)
-    → (outcome ≡ Done → state later None
+    → IsWhole outcome → (outcome ≡ Done → state later None
     ≡ after_change brought (step setting brought (state holds None) message).change (state holds None))
     → (outcome ≡ NoMemory → later ≡ holds)
     → after setting (state holds None) (turn_of lane session message outcome brought) ≡ state later None
-left setting lane session message Done brought holds later done stays = sym (done refl)
-left setting lane session message NoMemory brought holds later done stays = ap (λ c. state c None) (sym (stays refl))
+left setting lane session message Done brought holds later whole done stays = sym (done refl)
+left setting lane session message NoMemory brought holds later whole done stays = ap (λ c. state c None) (sym (stays refl))
+left setting lane session message DiskFault brought holds later whole done stays = absurd whole
+left setting lane session message Closed brought holds later whole done stays = absurd whole
 
 -- the text of the reply to a turn: what was made, where the turn is done, or the text that the outcome fixes
 reply_made : (setting : Setting) (s : State) (lane session : ℕ) (message : List Segment) (made : List ℕ)
     (outcome : Outcome) (brought : Brought)
-    → (outcome ≡ Done → made ≡ reply_text (step setting brought s message).reply)
+    → IsWhole outcome → (outcome ≡ Done → made ≡ reply_text (step setting brought s message).reply)
     → unwrap_or (option_map reply_text (fixed_reply outcome)) made
     ≡ (pair_of (exchange_of setting s (turn_of lane session message outcome brought))).text
-reply_made setting s lane session message made Done brought is = is refl
-reply_made setting s lane session message made NoMemory brought is = refl
+reply_made setting s lane session message made Done brought whole is = is refl
+reply_made setting s lane session message made NoMemory brought whole is = refl
+reply_made setting s lane session message made DiskFault brought whole is = absurd whole
+reply_made setting s lane session message made Closed brought whole is = absurd whole
 
-module _ (setting : Setting) (lane session : ℕ) (es : List Entry) (message : List Segment) (outcome : Outcome) (brought : Brought) where
+module _ (setting : Setting) (lane session : ℕ) (es : List Entry) (message : List Segment) (outcome : Outcome) (brought : Brought)
+    (is_whole : IsWhole outcome) where
   abbrev e : Entry
   e = turn_of lane session message outcome brought
 
@@ -105,16 +133,21 @@ module _ (setting : Setting) (lane session : ℕ) (es : List Entry) (message : L
       subst (λ (xs : List Exchange). AllByRecursion HasCause xs)
       (sym (exchanges_more setting (λ e. e) (is_of lane session) first_state es e (own lane session message outcome brought)))
       (all_more HasCause (exchanges_of setting (is_of lane session) first_state es) (exchange_of setting before e) all
-      (turn_cause setting before lane session message outcome brought))
+      (turn_cause setting before lane session message outcome brought is_whole))
 
   -- one turn more
   past_more : IsPast setting lane session es → IsPast setting lane session (es ++ e ∷ [])
   past_more past =
       let moments = all_more (λ e. e.moment ≡ 0) es e past.moments refl in
+      let whole = all_more (λ e. IsWhole e.outcome) es e past.whole is_whole in
       record {
-        legal = record { moments = never_fall 0 (es ++ e ∷ []) refl moments };
+        legal = record {
+          moments = never_fall 0 (es ++ e ∷ []) refl moments;
+          outcomes = whole_goes_on setting first_state (es ++ e ∷ []) whole;
+        };
         no_other = all_more (λ e. is_of lane session e ≡ true) es e past.no_other (own lane session message outcome brought);
         moments = moments;
+        whole = whole;
         causes = causes_more past.causes;
       }
 
@@ -137,7 +170,7 @@ module _ (setting : Setting) (lane session : ℕ) (es : List Entry) (message : L
       → state_of setting first_state (es ++ e ∷ []) ≡ state later None
   state_more holds later old done stays =
       state-append setting (λ e. e) first_state es (e ∷ [])
-      ∙ (ap (λ s. after setting s e) old ∙ left setting lane session message outcome brought holds later done stays)
+      ∙ (ap (λ s. after setting s e) old ∙ left setting lane session message outcome brought holds later is_whole done stays)
 
   -- a turn leaves what a repository keeps between two messages
   pub ready_more : (holds later : Contents) (given given_later : Option (List ℕ)) → IsReady setting lane session holds given es
@@ -160,7 +193,7 @@ module _ (setting : Setting) (lane session : ℕ) (es : List Entry) (message : L
       ++ pair message text ∷ []
   pairs_more_by holds text made old said done =
       let last : text ≡ (pair_of (exchange_of setting before e)).text =
-      said ∙ reply_made setting before lane session message made outcome brought
+      said ∙ reply_made setting before lane session message made outcome brought is_whole
       (λ h. done h ∙ ap (λ s. reply_text (step setting brought s message).reply) (sym old)) in
       pairs_more setting (λ e. e) (is_of lane session) first_state es e (own lane session message outcome brought)
       ∙ ap (λ (t : List ℕ). session_pairs setting first_state lane session es ++ pair message t ∷ []) (sym last)

@@ -1,5 +1,5 @@
--- The accounts of a run: those that the file lists which the arguments name. What an accounts file lists is
--- `file_known` of `acl_core`.
+-- The accounts of a run: those of the file that the arguments name. What an accounts file lists is `file_known` of
+-- `acl_core`.
 use Rattle.std.specs.Prelude.{◌≡◌, ◌≤◌, ◌⊎◌, ℕ, List, [], Option, None, Some}
 use Rattle.std.specs.Option.{ForSome}
 use Rattle.base_core.specs.Causes.{Rose}

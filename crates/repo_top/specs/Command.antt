@@ -1,5 +1,5 @@
 -- The arguments of the program as a command.
-use Rattle.std.specs.Prelude.{◌≡◌, ◌≤◌, ℕ, List, [], ◌∷◌, length, Option, codes, decimal, nat_eq, flat_map, unwrap_or, option_to_list}
+use Rattle.std.specs.Prelude.{◌≡◌, ◌≢◌, ◌≤◌, ℕ, List, [], ◌∷◌, length, get_or, Option, codes, decimal, nat_eq, flat_map, unwrap_or, option_to_list}
 use Rattle.std.specs.List.{AllByRecursion, before_first}
 use Rattle.dobj_model.specs.Name.{IsName}
 
@@ -53,9 +53,9 @@ request_in (Request n) = n ∷ []
 abbrev pub prefix_of : List ℕ → List ℕ
 prefix_of service = before_first (λ b. nat_eq b 47) service
 
--- a service is named, and its prefix has at most 200 bytes
+-- a service is named, its prefix has at most 200 bytes, and it doesn't begin with '-', as an option does
 abbrev pub IsService : List ℕ → Type 0
-IsService service = IsName service × (length (prefix_of service) ≤ 200)
+IsService service = IsName service × (length (prefix_of service) ≤ 200) × (get_or service 0 0 ≢ 45)
 
 -- `answer`, and what its options ask for
 pub record Command : Type 0 where

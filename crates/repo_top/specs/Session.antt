@@ -16,7 +16,7 @@ use Rattle.repo_step.specs.declared.config.Config.{Config}
 use Rattle.repo_step.specs.declared.outcome.Outcome.{Outcome}
 use Rattle.repo_step.specs.declared.outcome.Outcome.TheVariants.{NoMemory}
 use Rattle.repo_step.specs.Setting.{Setting, State, setting_of, state}
-use Rattle.repo_step.specs.History.{Entry, Legal, exchanges_of, is_of, session_pairs, state_of}
+use Rattle.repo_step.specs.History.{Entry, IsWhole, Legal, exchanges_of, is_of, session_pairs, state_of}
 use Rattle.repo_step.specs.Laws.{IsAllOf}
 
 -- the setting of a configuration, and of the operations and the hooks beside it
@@ -38,12 +38,13 @@ pub record Seat : Type 0 where
   pub lane : ℕ
   pub session : ℕ
 
--- The history of a run without a store: legal, all of it of this one session, and at moment 0, since there is no disk's
--- clock. The text for out of memory is the reply to an entry only if its outcome says so.
+-- The history of a run without a store: legal, all of it of this one session, at moment 0, since there is no disk's
+-- clock, and without disk faults. The text for out of memory is the reply to an entry only if its outcome says so.
 pub record IsPast (setting : Setting) (lane session : ℕ) (history : List Entry) : Type 0 where
   pub legal : Legal setting (λ e. e) first_state history
   pub no_other : IsAllOf lane session history
   pub moments : AllByRecursion (λ e. e.moment ≡ 0) history
+  pub whole : AllByRecursion (λ e. IsWhole e.outcome) history
   pub causes : AllByRecursion (λ x. reply_text x.reply ≡ reply_text memory_reply → x.entry.outcome ≡ NoMemory)
       (exchanges_of setting (is_of lane session) first_state history)
 
@@ -51,7 +52,8 @@ pub record IsPast (setting : Setting) (lane session : ℕ) (history : List Entry
 abbrev pub HasTimesOf : Option (List ℕ) → List Entry → Type 0
 HasTimesOf given history = ForSome given (λ times. times ≡ map (λ e. e.brought.time) history)
 
--- What a repository without a store keeps between two messages: the state after its history, whose times its clock gave.
+-- What a repository without a store keeps between two messages: the state after its history, whose times its clock
+-- gave.
 pub record IsReady (setting : Setting) (lane session : ℕ) (holds : Contents) (given : Option (List ℕ))
     (history : List Entry) : Type 0 where
   pub past : IsPast setting lane session history

@@ -4,7 +4,7 @@ ghost use Rattle.doip_message.specs.Reply.{reply_text};
 ghost use Rattle.repo_state.specs.Contents.{no_contents};
 ghost use Rattle.session_core.specs.Texts.{reply_bytes};
 ghost use Rattle.repo_step.specs.declared.outcome.Outcome.TheVariants.{Done, NoMemory};
-ghost use Rattle.repo_step.specs.History.{fixed_reply};
+ghost use Rattle.repo_step.specs.History.{IsWhole, fixed_reply};
 ghost use Rattle.repo_step.specs.Drafts.{AreShort};
 ghost use Rattle.repo_step.specs.Setting.{state};
 ghost use Rattle.repo_step.specs.Step.{after_change, step};
@@ -151,6 +151,7 @@ fn try_turn(
 fn outcome_of(made: Result<(), AllocError>) -> Outcome
     ensures done { result ≡ Done → IsOk made }
     ensures memory { result ≡ NoMemory → IsErr made }
+    ensures whole { IsWhole result }
 {
     match made {
         Ok(()) => Outcome::Done,

@@ -82,10 +82,17 @@ pub(crate) fn prefix_of(service: &str) -> &str
 fn is_service(text: &str) -> bool
     ensures { IsTrue result ↔ IsService text.now }
 {
-    if text.is_empty() || text.len() > LONGEST_NAME {
+    if text.is_empty() || text.len() > LONGEST_NAME || begins_option(text) {
         return false;
     }
     prefix_of(text).len() <= LONGEST_PREFIX
+}
+
+// Whether the text begins as an option does.
+fn begins_option(text: &str) -> bool
+    ensures { IsTrue result ↔ (get_or text.now 0 0 ≡ 45) }
+{
+    matches!(text.as_bytes().first(), Some(b'-'))
 }
 
 // Whether the text begins with a digit from 1.

@@ -117,10 +117,12 @@ fn serve_link<L: Link, C: Clock>(
     requires took { Took prepared.decoder [] }
     requires place { prepared.decoder.taken ≡ 0 }
     requires unused { ForSome (C.given clock) (λ times. times ≡ []) }
-    ensures past { IsPast (setting_with prepared.config extensions.now.operations extensions.now.hooks) 0 0 result.past }
+    ensures past { IsPast (setting_with prepared.config extensions.now.operations extensions.now.hooks) 0 0
+        result.past }
     ensures times { HasTimesOf (C.given result.clock) result.past }
     ensures served { IsServed prepared.decoder.limits
-        (session_pairs (setting_with prepared.config extensions.now.operations extensions.now.hooks) first_state 0 0 result.past)
+        (session_pairs (setting_with prepared.config extensions.now.operations extensions.now.hooks) first_state 0 0
+        result.past)
         (L.state link) (L.state result.link) result.end }
 {
     a_session_that_reports();
@@ -210,13 +212,13 @@ fn status_of(end: SessionEnd) -> (u8, Note)
 /// |---|---|---|
 /// | 2 | exactly when the command line is invalid | `Words` |
 /// | 9 | only if the host's count of faults rose | `Host` |
-/// | 10 | only if the file of `--accounts` is no accounts file | `File` |
+/// | 10 | if, and only if, the file of `--accounts` is no accounts file | `File` |
 /// | 7 | only if the link's count of faults rose | `End` |
 /// | 4 | out of memory before the session | `Memory` |
 /// | 0 | otherwise | `End` after a cut or a framing fault, else `Nothing` |
 ///
 /// The arguments are `answer SERVICE [--address A] [--port N] [--accounts FILE] [--request N]`: a service of 1 to 255
-/// bytes, of which at most 200 come before the first `/`, and then options in any order, each at most once; a port from
+/// bytes, which doesn't begin with `-` and has at most 200 bytes before the first `/`, and then options in any order, each at most once; a port from
 /// 1 to 65,535, a limit on the bytes of a request from 64 to 16,777,216. The accounts are those that the file lists,
 /// which is read before the console is asked for, or none. It replies to each message on the host's console, in order.
 /// The repository holds nothing at first, and lasts as long as the session. An invalid command line leaves the host as
@@ -241,16 +243,16 @@ where
     ensures times { ForSome result.clock (λ clock. HasTimesOf (H.Clock.given clock) result.past) }
     ensures clock { is_some result.clock ≡ is_some result.link }
 
-    // Each status has its cause, and if no fault was counted a command has status 0, 10 for its accounts file, or 4 when
-    // out of memory.
+    // Each status has its cause, and if no fault was counted a command has status 0, 10 for its accounts file, or 4
+    // when out of memory.
     ensures status { IsCommand words.now → IsExitOf H.Link.state words.now (H.state host.old).holds
         (H.state host.old).faults (H.state host.new).faults (exit result.status result.note) result.link result.end }
     ensures invalid { ¬ IsCommand words.now → IsInvalidExit (exit result.status result.note) result.link result.end }
     ensures complete { IsCommand words.now → ¬ Rose (H.state host.old).faults (H.state host.new).faults
         → CountsNoFault H.Link.state result.link → (result.status ≡ 0) ⊎ ((result.status ≡ 4) ⊎ (result.status ≡ 10)) }
 
-    // `console` is called once at most, and what it handed out is returned. `file` is called once at most, and only if an
-    // accounts file is named.
+    // `console` is called once at most, and what it handed out is returned. `file` is called once at most, and only if
+    // an accounts file is named.
     ensures link { LinkCounted (H.state host.old).handed.links (H.state host.new).handed.links result.link }
     ensures calls { CalledOnce (H.state host.old).calls.console (H.state host.new).calls.console }
     ensures file { CallsFile words.now (H.state host.old).calls.file (H.state host.new).calls.file }

@@ -35,7 +35,7 @@ fn joined(alloc: Global, texts: &[&[u8]]) -> Result<Vec<u8>, AllocError> {
     Ok(all)
 }
 
-// IsRunOf a command over a host with one link.
+// Runs a command over a host with one link.
 fn run(alloc: Global, texts: &[&str], link: MemoryLink) -> Result<Ran<MemoryHost>, Fail> {
     let mut host = MemoryHost::new(alloc);
     host.add_console(link)?;
@@ -43,7 +43,7 @@ fn run(alloc: Global, texts: &[&str], link: MemoryLink) -> Result<Ran<MemoryHost
     Ok(run_plain(alloc, &words, &mut host, Extensions::none(alloc)))
 }
 
-// IsRunOf `answer 35.TEST/svc` over these bytes.
+// Runs `answer 35.TEST/svc` over these bytes.
 fn run_over(alloc: Global, bytes: &[u8]) -> Result<Ran<MemoryHost>, Fail> {
     run(
         alloc,
@@ -240,6 +240,8 @@ fn an_invalid_command_line_is_refused(rt: HostRuntime) -> Result<(), Fail> {
         &[],
         &["answer"],
         &["answer", ""],
+        &["answer", "--help"],
+        &["answer", "-s"],
         &["serve", "s"],
         &["answer", "s", "--port"],
         &["answer", "s", "--port", "0"],

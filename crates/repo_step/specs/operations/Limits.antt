@@ -1,5 +1,5 @@
 -- The limits of a change. This project's own.
-use Rattle.std.specs.Prelude.{ℕ, ◌+◌, ◌^◌, length, nat_le, nat_lt, Option, Some, None, Result, if◌then◌else◌}
+use Rattle.std.specs.Prelude.{ℕ, ◌+◌, ◌-◌, ◌^◌, length, nat_le, nat_lt, Option, Some, None, Result, if◌then◌else◌}
 use Rattle.journal_core.specs.declared.journal.Room.{Room}
 use Rattle.record_core.specs.declared.change.Change.{Change}
 use Rattle.record_core.specs.Body.{body}
@@ -17,7 +17,7 @@ last_number = 2 ^ 48
 
 -- the last revision of an object
 abbrev pub last_revision : ℕ
-last_revision = 2 ^ 63
+last_revision = 2 ^ 63 - 1
 
 -- what a record needs beside its body, with the closed gate after it
 abbrev pub record_needs : ℕ

@@ -7,7 +7,7 @@ use Rattle.repo_step.specs.declared.operation.Operation.{Operation}
 use Rattle.repo_step.specs.declared.operation.Operation.TheVariants.{Hello, ListOperations, Create, Retrieve, Update, Delete, Extended}
 use Rattle.repo_step.specs.Setting.{Setting}
 
--- the identifiers that no extension has: those of DOIP 2.0, and that of the list of changes
+-- the identifiers under which no extension is reached: those of DOIP 2.0, and that of the list of changes
 abbrev pub reserved_names : List (List ℕ)
 reserved_names =
     codes "0.DOIP/Op.Hello" ∷ codes "0.DOIP/Op.ListOperations" ∷ codes "0.DOIP/Op.Create" ∷ codes "0.DOIP/Op.Retrieve"

@@ -1,5 +1,5 @@
 -- Update (DOIP 2.0, 0.DOIP/Op.Update): the input takes the place of attributes and elements.
-use Rattle.std.specs.Prelude.{ℕ, ◌+◌, List, [], map, find, nat_lt, Bool, true, ◌&&◌, is_none, Option, Some, None, option_map, unwrap_or, ◌-◌}
+use Rattle.std.specs.Prelude.{ℕ, ◌+◌, List, [], map, find, nat_lt, Bool, true, ◌&&◌, is_none, Option, Some, None, option_map, unwrap_or}
 use Rattle.doip_message.specs.Asked.{Content}
 use Rattle.dobj_model.specs.declared.elements.Element.{Element}
 use Rattle.dobj_model.specs.declared.metadata.Metadata.{Metadata}
@@ -79,6 +79,6 @@ update brought s caller input o =
     unless (is_same_if_there d.type_name o.type_name) OtherType (
     clear (first_lacking o d.elements) NoBytes (
     let object = updated o d (next_metadata o.metadata (caller_name caller) brought.time) in
-    unless (nat_lt o.metadata.revision (last_revision - 1)) LastRevision (
+    unless (nat_lt o.metadata.revision last_revision) LastRevision (
     within_limits s (Put object None) (
     puts object None)))))))

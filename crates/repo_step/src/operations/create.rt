@@ -32,7 +32,8 @@ pub(crate) fn create<'t>(turn: Turn<'t>, caller: &Caller, input: Body) -> Result
     requires short { IsShort caller.now }
     requires brought { IsBroughtContent (content_of input) }
     ensures { (offers : Offered) → Gives effect_of result
-        (spec.create (setting_in turn.entry offers) turn.entry.brought (state_in turn.entry) caller.now (content_of input)) }
+        (spec.create (setting_in turn.entry offers) turn.entry.brought (state_in turn.entry) caller.now
+        (content_of input)) }
 {
     let Draft {
         id,

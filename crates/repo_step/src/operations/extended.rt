@@ -28,7 +28,8 @@ pub(crate) fn extended<'t>(
     object: &Object,
 ) -> Result<Made<'t>, Stop>
     ensures { (code : ExtCode) → code_at name.now extensions.now.operations ≡ Some code
-        → Gives effect_of result (spec.extended code (state_in turn.entry) caller.now (entries_from arguments.now) object.now) }
+        → Gives effect_of result (spec.extended code (state_in turn.entry) caller.now (entries_from arguments.now)
+        object.now) }
 {
     if !may(turn, caller, Right::Read, object) {
         return Err(Stop::Refused(no_right(caller)));

@@ -61,14 +61,15 @@ fn numbered(turn: Turn, number: u64) -> Result<Id, AllocError>
     let text = format!(in turn.alloc; "{}/{}", turn.config.prefix.get(), number)?;
     match Id::from_text(Str::from_string(text)) {
         Some(id) => Ok(id),
-        // A prefix has at most 200 bytes, and a number 20.
+        // A prefix has at most 200 bytes, and a number below 2^62 at most 19.
         None => unreachable!(),
     }
 }
 
 // Whether the identifier is neither the service's nor an object's.
 fn is_free(turn: Turn, id: &str) -> bool
-    ensures { (offers : Offered) → result ≡ spec.is_free (setting_in turn.entry offers) (state_in turn.entry).contents id.now }
+    ensures { (offers : Offered)
+        → result ≡ spec.is_free (setting_in turn.entry offers) (state_in turn.entry).contents id.now }
 {
     id != turn.config.service.get() && turn.table.get(id).is_none()
 }

@@ -23,7 +23,8 @@ returns-clause-ready g c =
     (same_seat _ _ _ _ _ _ _ _ _ _ c.record.ensures.config c.record.ensures.operations c.record.ensures.hooks
     c.record.ensures.session.0 c.record.ensures.session.1)
     (ap (λ t. t.contents) c.record.ensures.table) (ap g.C.Clock.given c.record.ensures.clock) c.record.ensures.past
-    (ready_more setting me.lane me.session me.past message outcome (record { time = c.now.result }) me.table.contents
+    (ready_more setting me.lane me.session me.past message outcome (record { time = c.now.result })
+    c.outcome_of-outcome.ensures.whole me.table.contents
     c.try_turn-made.new.table.contents (g.C.Clock.given me.clock) (g.C.Clock.given c.now.new.self) c.requires.ready
     c.now.ensures (λ d. on_ok c.try_turn-made.result _ c.try_turn-made.ensures.change (c.outcome_of-outcome.ensures.done d))
     (λ m. on_err c.try_turn-made.result _ c.try_turn-made.ensures.stays (c.outcome_of-outcome.ensures.memory m)))
@@ -43,7 +44,8 @@ returns-clause-answered g c =
     (me.past ++ turn_of me.lane me.session message outcome (record { time = c.now.result }) ∷ []) now.past
     (same_seat _ _ _ _ _ _ _ _ _ _ c.record.ensures.config c.record.ensures.operations c.record.ensures.hooks
     c.record.ensures.session.0 c.record.ensures.session.1) c.record.ensures.past
-    ∙ (pairs_more_by setting me.lane me.session me.past message outcome (record { time = c.now.result }) me.table.contents
+    ∙ (pairs_more_by setting me.lane me.session me.past message outcome (record { time = c.now.result })
+    c.outcome_of-outcome.ensures.whole me.table.contents
     text made c.requires.ready.after (c.reply_of.ensures made)
     (λ d. on_ok c.try_turn-made.result _ c.try_turn-made.ensures.reply (c.outcome_of-outcome.ensures.done d)
     ∙ ap (λ before. before ++ reply) c.clear.ensures.items)
