@@ -212,7 +212,7 @@ fn status_of(end: SessionEnd) -> (u8, Note)
 /// |---|---|---|
 /// | 2 | exactly when the command line is invalid | `Words` |
 /// | 9 | only if the host's count of faults rose | `Host` |
-/// | 10 | if, and only if, the file of `--accounts` is no accounts file | `File` |
+/// | 10 | only if the file of `--accounts` is no accounts file | `File` |
 /// | 7 | only if the link's count of faults rose | `End` |
 /// | 4 | out of memory before the session | `Memory` |
 /// | 0 | otherwise | `End` after a cut or a framing fault, else `Nothing` |
