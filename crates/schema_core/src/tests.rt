@@ -69,6 +69,22 @@ fn each_word_of_the_value_itself_passes_and_fails(rt: HostRuntime) -> Result<(),
                 b"18446744073709551615",
                 "maximum at ",
             ),
+            (
+                b"{\"minimum\":18446744073709551615}",
+                b"18446744073709551615",
+                "valid",
+            ),
+            (
+                b"{\"minimum\":18446744073709551615}",
+                b"18446744073709551614",
+                "minimum at ",
+            ),
+            (
+                b"{\"maximum\":-9223372036854775808}",
+                b"-9223372036854775807",
+                "maximum at ",
+            ),
+            (b"{\"maxLength\":18446744073709551615}", b"\"\"", "valid"),
             (b"{\"minimum\":5}", b"\"a\"", "valid"),
             (
                 b"{\"minLength\":2,\"maxLength\":2}",
@@ -102,6 +118,39 @@ fn each_word_of_the_value_itself_passes_and_fails(rt: HostRuntime) -> Result<(),
             ),
         ],
     )
+}
+
+// The kinds of which the value is.
+fn kinds_of(alloc: Global, value: &str) -> Result<String, Fail> {
+    let kinds = [
+        "null", "boolean", "integer", "number", "string", "array", "object",
+    ];
+    let mut found = String::new(alloc);
+    for kind in kinds {
+        let schema = format!(in alloc; "{{\"type\":\"{kind}\"}}")?;
+        let got = outcome(alloc, schema.as_bytes(), value.as_bytes())?;
+        if got.as_str() == "valid" {
+            found.push_str(kind)?;
+            found.push_str(";")?;
+        }
+    }
+    Ok(found)
+}
+
+#[test]
+fn each_value_is_of_its_kinds_alone(rt: HostRuntime) -> Result<(), Fail> {
+    let rows = [
+        ("null", "null;"),
+        ("false", "boolean;"),
+        ("-7", "integer;number;"),
+        ("\"7\"", "string;"),
+        ("[]", "array;"),
+        ("{}", "object;"),
+    ];
+    for (value, want) in rows {
+        assert_eq!(rt; kinds_of(rt.alloc(), value)?.as_str(), want, "at {value}");
+    }
+    Ok(())
 }
 
 #[test]
@@ -239,6 +288,7 @@ fn words_are_refused_or_ignored_by_their_names(rt: HostRuntime) -> Result<(), Fa
         "id",
         "$schema",
         "definitions",
+        "additionalItems",
         "const",
         "Type",
         "",
@@ -313,22 +363,18 @@ fn a_schema_nests_as_deep_as_content_may(rt: HostRuntime) -> Result<(), Fail> {
     Ok(())
 }
 
-#[test]
-fn references_are_listed_in_order(rt: HostRuntime) -> Result<(), Fail> {
-    let schema =
-        b"{\"properties\":{\"see\":{\"items\":{\"cordra\":{\"type\":{\"handleReference\":{\"types\":[\"N\",\"M\"]}}}}},\
-        \"by\":{\"cordra\":{\"type\":{\"handleReference\":{\"types\":[\"P\"]}}}}}}";
-    let value = b"{\"see\":[\"35.T/1\",7,\"35.T/2\"],\"by\":\"35.T/3\",\"to\":\"35.T/4\"}";
-    let schema = read(rt.alloc(), schema, 127)?;
-    let Ok(schema) = schema_of(rt.alloc(), &schema) else {
+// The references that a schema lists in a value, each with its pointer and the number of its types.
+fn listed(alloc: Global, schema: &[u8], value: &[u8]) -> Result<String, Fail> {
+    let schema = read(alloc, schema, 127)?;
+    let Ok(schema) = schema_of(alloc, &schema) else {
         return Err(Fail::from("no schema"));
     };
-    let value = read(rt.alloc(), value, 127)?;
-    let found = references(rt.alloc(), &schema, &value)?;
-    let mut text = String::new(rt.alloc());
+    let value = read(alloc, value, 127)?;
+    let found = references(alloc, &schema, &value)?;
+    let mut text = String::new(alloc);
     for i in 0..found.len() {
         let one = found.item(i);
-        let line = format!(in rt.alloc();
+        let line = format!(in alloc;
             "{} {} {};",
             one.pointer.get(),
             one.id.get(),
@@ -336,9 +382,52 @@ fn references_are_listed_in_order(rt: HostRuntime) -> Result<(), Fail> {
         )?;
         text.push_str(&line)?;
     }
+    Ok(text)
+}
+
+#[test]
+fn references_are_listed_in_order(rt: HostRuntime) -> Result<(), Fail> {
+    let schema =
+        b"{\"properties\":{\"see\":{\"items\":{\"cordra\":{\"type\":{\"handleReference\":{\"types\":[\"N\",\"M\"]}}}}},\
+        \"by\":{\"cordra\":{\"type\":{\"handleReference\":{\"types\":[\"P\"]}}}}}}";
+    let value = b"{\"see\":[\"35.T/1\",7,\"35.T/2\"],\"by\":\"35.T/3\",\"to\":\"35.T/4\"}";
     assert_eq!(rt;
-        text.as_str(),
+        listed(rt.alloc(), schema, value)?.as_str(),
         "/by 35.T/3 1;/see/0 35.T/1 2;/see/2 35.T/2 2;"
     );
+    Ok(())
+}
+
+// The schema of notes: a number, and another note that is seen.
+const NOTE: &[u8] =
+    b"{\"type\":\"object\",\"properties\":{\"n\":{\"type\":\"integer\",\"minimum\":0},\
+    \"see\":{\"type\":\"string\",\"cordra\":{\"type\":{\"handleReference\":{\"types\":[\"Note\"]}}}}}}";
+
+#[test]
+fn a_note_is_checked_and_its_references_are_listed(rt: HostRuntime) -> Result<(), Fail> {
+    let rows = [
+        (
+            "{\"n\":1,\"see\":\"35.TEST/n1\"}",
+            "valid",
+            "/see 35.TEST/n1 1;",
+        ),
+        ("{\"see\":\"35.TEST/zz\"}", "valid", "/see 35.TEST/zz 1;"),
+        ("{\"n\":-1}", "minimum at /n", ""),
+        ("{\"see\":7}", "type at /see", ""),
+        ("{}", "valid", ""),
+        ("null", "type at ", ""),
+    ];
+    for (content, want, found) in rows {
+        assert_eq!(rt;
+            outcome(rt.alloc(), NOTE, content.as_bytes())?.as_str(),
+            want,
+            "at {content}"
+        );
+        assert_eq!(rt;
+            listed(rt.alloc(), NOTE, content.as_bytes())?.as_str(),
+            found,
+            "at {content}"
+        );
+    }
     Ok(())
 }
