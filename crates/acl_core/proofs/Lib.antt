@@ -1,3 +1,4 @@
 pub mod NameLemmas
 pub mod ListLemmas
 pub mod WordLemmas
+pub mod GrantLemmas

@@ -70,7 +70,7 @@ both_true : (x y : Bool) → x && y ≡ true → (x ≡ true) × (y ≡ true)
 both_true true y e = (refl, e)
 both_true false y e = absurd (cc)
 
-equal_lists : (xs ys : List ℕ) → pointwise nat_eq xs ys ≡ true → xs ≡ ys
+pub equal_lists : (xs ys : List ℕ) → pointwise nat_eq xs ys ≡ true → xs ≡ ys
 equal_lists [] [] same = refl
 equal_lists [] (y ∷ ys) same = absurd (cc)
 equal_lists (x ∷ xs) [] same = absurd (cc)

@@ -8,7 +8,7 @@ use Rattle.doip_json.specs.declared.value.Json.TheVariants.{Null, Truth, Whole, 
 use Rattle.doip_json.specs.Meaning.{value_of}
 use Rattle.doip_json.specs.Value.{Value, values_from}
 use Rattle.acl_core.specs.File.{string_in}
-use Rattle.acl_core.specs.Rights.{texts_in}
+use Rattle.acl_core.specs.Granting.{texts_in}
 
 next_of : {X : Type 0} (xs : List X) (i : ℕ) (x : X) → slice_get xs i ≡ Some x → drop i xs ≡ x ∷ drop (i + 1) xs
 next_of xs i x is = drop_more xs i x (slice_get_within xs i x is) ∙ ap (λ y. y ∷ drop (i + 1) xs) (get_or_from_slice_get xs i x x is)

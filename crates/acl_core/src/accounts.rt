@@ -54,7 +54,8 @@ impl Accounts {
 
     // Whether there is an account of the identifier, and the password is its own.
     pub(crate) fn has(&self, id: &str, password: &str) -> bool
-        ensures same { result ≡ option_map_or (λ a. is_password a password.now) (account_of id.now self.now.accounts) false }
+        ensures same { result
+            ≡ option_map_or (λ a. is_password a password.now) (account_of id.now self.now.accounts) false }
         ensures named { IsTrue result → IsName id.now }
     {
         match self.table.get(id) {

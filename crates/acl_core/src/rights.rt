@@ -1,9 +1,10 @@
 //! What a caller may do.
-ghost use Rattle.std.specs.Prelude.{◌≡◌, ◌||◌, codes, Some, None, option_map};
+ghost use Rattle.std.specs.Prelude.{◌≡◌, ◌↔◌, ◌||◌, codes, Some, None, IsTrue, option_map};
 ghost use Rattle.std.specs.List.{list_any};
 ghost use Rattle.doip_json.specs.Value.{list, values_from};
 ghost use Rattle.dobj_model.specs.Object.{access_list};
-ghost use Rattle.acl_core.specs.Rights.{is_named, grants_known, grants, texts_in, words_of, is_the_admin, any_grants, may_do, may_make};
+ghost use Rattle.acl_core.specs.Granting.{texts_in, words_of, is_the_admin, HasRight, MayCreate};
+ghost use Rattle.acl_core.specs.Rights.{is_named, grants_known, grants, any_grants, may_do, may_make};
 
 use crate::caller::Caller;
 use crate::groups::Groups;
@@ -45,7 +46,10 @@ pub fn may<G: Groups>(
     lists: &TypeLists,
     groups: &G,
 ) -> bool
-    ensures { result ≡ may_do (G.is_in groups.now) caller.now right object.now lists.now }
+    ensures granted { IsTrue result ↔ HasRight (G.is_in groups.now) caller.now object.now lists.now right }
+
+    // The same as a function, for a contract above that computes.
+    ensures value { result ≡ may_do (G.is_in groups.now) caller.now right object.now lists.now }
 {
     if is_admin(caller) {
         return true;
@@ -62,7 +66,8 @@ pub fn may<G: Groups>(
 /// Whether the caller may create an object of the type: the admin may, and whoever a word of the list grants it to, as
 /// [`may`] says. `creator` and `self` grant nothing here. It takes no memory.
 pub fn may_create<G: Groups>(caller: &Caller, lists: &TypeLists, groups: &G) -> bool
-    ensures { result ≡ may_make (G.is_in groups.now) caller.now lists.now }
+    ensures granted { IsTrue result ↔ MayCreate (G.is_in groups.now) caller.now lists.now }
+    ensures value { result ≡ may_make (G.is_in groups.now) caller.now lists.now }
 {
     is_admin(caller) || names_grant(&lists.create, caller, None, None, groups)
 }

@@ -75,6 +75,36 @@ fn files_of_accounts_are_read_or_refused(rt: HostRuntime) -> Result<(), Fail> {
     Ok(())
 }
 
+// The outcome of a file of one account with these properties.
+fn of_one(alloc: Global, id: &str, salt: &str, hash: &str) -> Result<&'static str, AllocError> {
+    let text = format!(in alloc; "{{\"more\":0,\"accounts\":[{{{id}{salt}{hash}\"more\":0}}]}}")?;
+    Ok(outcome(alloc, text.as_str()))
+}
+
+#[test]
+fn each_property_of_an_account_is_a_string(rt: HostRuntime) -> Result<(), Fail> {
+    let id = "\"id\":\"a\",";
+    let salt = "\"salt\":\"\",";
+    let hash = "\"hash\":\"ba7816bf8f01cfea414140de5dae2223b00361a396177a9cb410ff61f20015ad\",";
+    let rows = [
+        (id, salt, hash, "read"),
+        ("", salt, hash, "refused"),
+        ("\"id\":7,", salt, hash, "refused"),
+        (id, "", hash, "refused"),
+        (id, "\"salt\":null,", hash, "refused"),
+        (id, salt, "", "refused"),
+        (id, salt, "\"hash\":7,", "refused"),
+    ];
+    for (id, salt, hash, want) in rows {
+        assert_eq!(rt;
+            of_one(rt.alloc(), id, salt, hash)?,
+            want,
+            "at {id} {salt} {hash}"
+        );
+    }
+    Ok(())
+}
+
 #[test]
 fn other_values_are_refused(rt: HostRuntime) -> Result<(), Fail> {
     let rows = [

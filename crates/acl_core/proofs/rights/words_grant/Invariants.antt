@@ -1,7 +1,8 @@
 use Rattle.std.proofs.Common.{◌≡◌, drop, option_map}
 use Rattle.std.specs.List.{list_any}
 use Rattle.doip_json.specs.Value.{values_from}
-use Rattle.acl_core.specs.Rights.{grants, texts_in}
+use Rattle.acl_core.specs.Granting.{texts_in}
+use Rattle.acl_core.specs.Rights.{grants}
 use Rattle.acl_core.proofs.rights.words_grant.Given as goal
 
 abbrev pub invariant-loop-i : goal.invariant-loop-i
