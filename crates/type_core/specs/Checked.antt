@@ -1,7 +1,6 @@
 -- What the schema of a type finds wrong with the content of an object. This project's own.
 use Rattle.std.specs.Prelude.{ℕ, List, Bool, not, if◌then◌else◌, Option, option_map, find}
 use Rattle.std.specs.List.{list_any}
-use Rattle.doip_json.specs.Value.{Value}
 use Rattle.doip_json.specs.Written.{pointer_of}
 use Rattle.dobj_model.specs.declared.object.ObjectValue.{ObjectValue}
 use Rattle.schema_core.specs.declared.collecting.Reference.{Reference}

@@ -1,6 +1,6 @@
 -- What a type object states, or the first fault of its content (after Cordra; the names, the default lists and the
 -- order of the faults are this project's own).
-use Rattle.std.specs.Prelude.{◌≡◌, ℕ, List, [], ◌∷◌, codes, if◌then◌else◌, Option, Some, None, option_and_then, unwrap_or, Result, Ok, Err, ⊤}
+use Rattle.std.specs.Prelude.{◌≡◌, ℕ, List, [], ◌∷◌, codes, if◌then◌else◌, Option, Some, None, option_and_then, unwrap_or, Result, Ok, Err}
 use Rattle.doip_json.specs.Value.{Value, null, truth, whole, text, list, table, Entries}
 use Rattle.doip_json.specs.Look.{entry_of, field_of}
 use Rattle.schema_core.specs.declared.fault.SchemaFault.{SchemaFault}

@@ -1,3 +1,5 @@
 pub mod Names
 pub mod Content
 pub mod Checked
+pub mod Least
+pub mod Sound

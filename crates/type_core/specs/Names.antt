@@ -1,5 +1,5 @@
 -- Types by their names, and the names that type objects give (after Cordra): this project's own rule.
-use Rattle.std.specs.Prelude.{ℕ, List, codes, length, nat_eq, nat_le, Bool, not, ◌&&◌, ◌||◌, if◌then◌else◌, Option, Some, None, option_and_then, unwrap_or}
+use Rattle.std.specs.Prelude.{ℕ, List, codes, length, nat_eq, nat_le, Bool, not, ◌&&◌, ◌||◌, if◌then◌else◌, Option, None, option_and_then, unwrap_or}
 use Rattle.std.specs.Cmp.Lexicographic.{pointwise}
 use Rattle.doip_json.specs.Value.{Value, null, entries_from}
 use Rattle.doip_json.specs.Look.{entry_of, field_of}

@@ -1,0 +1,53 @@
+//! What a change of one object does to the others.
+ghost use Rattle.std.specs.Prelude.{◌≡◌, ℕ, List, [], Bool, not, None, Some};
+ghost use Rattle.std.specs.FinMap as finite;
+ghost use Rattle.dobj_model.specs.declared.object.ObjectValue.{ObjectValue};
+ghost use Rattle.schema_core.specs.Rules.{Rules, plain};
+ghost use Rattle.schema_core.specs.References.{references_in};
+ghost use Rattle.type_core.specs.Least.{least};
+ghost use Rattle.type_core.specs.Names.{checked_content};
+ghost use Rattle.type_core.specs.Checked.{first_failing};
+ghost use Rattle.type_core.specs.Sound.{Objects, AreNamed, IsSound, is_sound_in, least_unsound, rules_at, KeepsType, MayBePut, leans_on, would_miss, MayReplace, would_lose};
+
+/// All objects are sound if and only if none is the least that isn't. It does nothing when it runs: a proof calls it
+/// for its clauses.
+pub fn the_least_unsound_decides()
+    ensures sound { (objects : Objects) → least_unsound objects ≡ None → IsSound objects }
+    ensures none { (objects : Objects) → IsSound objects → least_unsound objects ≡ None }
+{}
+
+/// An object that is put leaves all others sound, and is sound itself, so nobody has to look at the others. It is new,
+/// or takes the place of an object of its type that is no type object; its content fits its type; its references are
+/// met by the others and itself; and as a type object it states a type of a name that no other has. It does nothing when it
+/// runs.
+pub fn puts_keep_soundness()
+    ensures sound { (objects : Objects) (o : ObjectValue) → KeepsType objects o → MayBePut objects o → IsSound objects
+        → IsSound (finite.insert objects o.id o) }
+{}
+
+/// Without an object that is removed, those aren't sound whose type it makes or whose references name it, and no
+/// others. So the least in the way of the removal is found among the objects as they stand. It does nothing when it runs.
+pub fn removals_leave_what_leans()
+    ensures one { (objects : Objects) (id : List ℕ) (gone : ObjectValue) → finite.get objects id ≡ Some gone
+        → AreNamed objects → IsSound objects → (other : List ℕ) (o : ObjectValue) (schema : Rules)
+        → finite.get objects other ≡ Some o → rules_at objects o.type_name ≡ Some schema
+        → is_sound_in (finite.remove objects id) o ≡ not (leans_on gone schema o) }
+    ensures in_the_way { (objects : Objects) (id : List ℕ) (gone : ObjectValue) → finite.get objects id ≡ Some gone
+        → AreNamed objects → IsSound objects
+        → least (would_miss objects gone) objects ≡ least_unsound (finite.remove objects id) }
+{}
+
+/// Once a type object takes the place of another, those aren't sound whose type the old one makes, if the new one makes
+/// another type or they don't fit its schema, and no others. It does nothing when it runs.
+pub fn replacements_leave_a_type()
+    ensures in_the_way { (objects : Objects) (old new : ObjectValue) → MayReplace objects old new
+        → AreNamed objects → IsSound objects
+        → least (would_lose objects old new) objects ≡ least_unsound (finite.insert objects new.id new) }
+{}
+
+/// The schema of a type that is built in asks nothing: no content fails it, and none has references by it. It does
+/// nothing when it runs.
+pub fn built_in_types_ask_nothing()
+    ensures valid { (o : ObjectValue) → first_failing plain o ≡ None }
+    ensures references { (o : ObjectValue) → references_in plain (checked_content o) ≡ [] }
+{}
