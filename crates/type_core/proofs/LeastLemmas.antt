@@ -1,13 +1,17 @@
 -- The least key of a finite map whose value passes a test, and how a scan in any order finds it.
-use Rattle.std.proofs.Common.{◌≡◌, ℕ, List, [], ◌∷◌, Bool, true, false, cond, ◌&&◌, T, Option, Some, None, unwrap_or, is_some, refl, ap, sym, ◌∙◌, nat_eq, true≢false}
+use Rattle.std.proofs.Common.{◌≡◌, ℕ, List, [], ◌∷◌, Bool, true, false, cond, ◌&&◌, T, Option, Some, None, unwrap_or, is_some, refl, ap, sym, ◌∙◌, nat_eq, true≢false, arith, suc, ◌+◌, length, drop, slice_get}
+use Rattle.std.proofs.Math.Seq.{drop-cons}
+use Rattle.std.proofs.lemmas.Option.{slice_get_within, get_or_from_slice_get}
 use Rattle.std.specs.Cmp.Lexicographic.{pointwise, nat_list_cmp_total, texts_ties, same_text}
 use Rattle.std.specs.Cmp.{eq_by_cmp_equiv}
 use Rattle.std.specs.declared.cmp.Ordering.{Ordering}
 use Rattle.std.specs.declared.cmp.Ordering.TheVariants.{Less, Equal, Greater}
 use Rattle.std.specs.Ordering.{eq_by_cmp, is_lt, is_eq, ordering_reverse}
+use Rattle.std.specs.List.{AllByRecursion, IsDistinct}
 use Rattle.std.specs.FinMap as finite
-use Rattle.std.specs.FinMap.Entries.{below_all}
-use Rattle.type_core.specs.Least.{id_cmp, first_such, least}
+use Rattle.std.specs.FinMap.Entries.{below_all, by_order}
+use Rattle.std.specs.Map.{keys_of}
+use Rattle.type_core.specs.Least.{id_cmp, first_such, least, lesser, least_of}
 
 -- two identifiers tie exactly when they are the same text
 pub same_id : (q k : List ℕ) → eq_by_cmp id_cmp q k ≡ pointwise nat_eq q k
@@ -174,6 +178,100 @@ module _ {X : Type 0} where
     least_first m k e j v f =
         such_first (finite.entries m) (finite.entries_sorted m) k e j v (sym (finite.get-entries m j) ∙ f)
 
+    -- ---- a scan in any order
+
+    picked : (k : List ℕ) (es : List (List ℕ × X)) → ((j : List ℕ) → first_such p es ≡ Some j
+        → is_lt (id_cmp k j) ≡ true)
+        → lesser true k (first_such p es) ≡ Some k
+    picked k es h = by (first_such p es) h
+      where
+        by : (r : Option (List ℕ)) → ((j : List ℕ) → r ≡ Some j → is_lt (id_cmp k j) ≡ true)
+            → lesser true k r ≡ Some k
+        by None h = refl
+        by (Some j) h = ap (λ t. cond t (Some k) (Some j)) (h j refl)
+
+    put_least : (k : List ℕ) (v : X) (es : List (List ℕ × X)) → T (finite.is_sorted id_cmp es)
+        → finite.find id_cmp k es ≡ None
+        → first_such p (finite.put id_cmp k v es) ≡ lesser (p k v) k (first_such p es)
+    put_least k v [] h f = elim (p k v) as (λ b. cond b (Some k) None
+        ≡ lesser b k None) [ true ↦ refl | false ↦ refl ]
+    put_least k v (x ∷ es) h f =
+        by (put_least k v es (both_of (below_all id_cmp x.0 es) _ h).1) (id_cmp k x.0) refl (p k v) refl
+        (p x.0 x.1) refl
+      where
+        above : is_lt (id_cmp k x.0) ≡ true → (j : List ℕ) → first_such p (x ∷ es) ≡ Some j
+            → is_lt (id_cmp k j) ≡ true
+        above lt j e = let r = such_passes (x ∷ es) h j e in over r.0 (eq_by_cmp id_cmp j x.0) refl r.1
+          where
+            over : (o : X) (t : Bool) → eq_by_cmp id_cmp j x.0 ≡ t
+                → cond t (Some x.1) (finite.find id_cmp j es) ≡ Some o
+                → is_lt (id_cmp k j) ≡ true
+            over o true t f = ap (λ y. is_lt (id_cmp k y)) (tied_same j x.0 t) ∙ lt
+            over o false t f = below_below k x.0 j lt (below_found x.0 j o es (both_of _ _ h).0 f)
+
+        by : (finite.find id_cmp k es ≡ None → first_such p (finite.put id_cmp k v es)
+            ≡ lesser (p k v) k (first_such p es))
+            → (r : Ordering) → id_cmp k x.0 ≡ r → (b : Bool) → p k v ≡ b → (c : Bool) → p x.0 x.1 ≡ c
+            → first_such p (by_order r ((k, v) ∷ x ∷ es) ((x.0, v) ∷ es) (x ∷ finite.put id_cmp k v es))
+            ≡ lesser b k (cond c (Some x.0) (first_such p es))
+        by again Less r true b c g =
+            ap (λ t. cond t (Some k) (first_such p (x ∷ es))) b ∙ sym (picked k (x ∷ es) (above (ap is_lt r)))
+            ∙ ap (λ t. lesser true k (cond t (Some x.0) (first_such p es))) g
+        by again Less r false b c g =
+            ap (λ t. cond t (Some k) (first_such p (x ∷ es))) b ∙ ap (λ t. cond t (Some x.0) (first_such p es)) g
+        by again Equal r b q c g =
+            absurd (no_some x.1 (sym (ap (λ t. cond t (Some x.1) (finite.find id_cmp k es)) (ap is_eq r)) ∙ f))
+        by again Greater r true b true g =
+            ap (λ t. cond t (Some x.0) (first_such p (finite.put id_cmp k v es))) g
+            ∙ sym (ap (λ t. cond t (Some k) (Some x.0)) (ap is_lt r))
+        by again Greater r false b true g = ap (λ t. cond t (Some x.0) (first_such p (finite.put id_cmp k v es))) g
+        by again Greater r b q false g =
+            ap (λ t. cond t (Some x.0) (first_such p (finite.put id_cmp k v es))) g
+            ∙ again (ap (λ t. cond t (Some x.1) (finite.find id_cmp k es)) (sym (ap is_eq r)) ∙ f)
+            ∙ ap (λ t. lesser t k (first_such p es)) q
+
+    -- the least after a new key
+    pub least-insert : (m : finite.FinMap id_cmp X) (k : List ℕ) (v : X) → finite.get m k ≡ None
+        → least p (finite.insert m k v) ≡ lesser (p k v) k (least p m)
+    least-insert m k v f =
+        ap (first_such p) (finite.entries-insert nat_list_cmp_total m k v)
+        ∙ put_least k v (finite.entries m) (finite.entries_sorted m) (sym (finite.get-entries m k) ∙ f)
+
+    pub none_after : (k : List ℕ) (es : List (List ℕ × X)) → AllByRecursion (λ y. pointwise nat_eq k y
+        ≡ false) (keys_of es) → finite.find id_cmp k es ≡ None
+    none_after k [] h = refl
+    none_after k (x ∷ es) h =
+        ap (λ t. cond t (Some x.1) (finite.find id_cmp k es)) (same_id k x.0 ∙ h.0) ∙ none_after k es h.1
+
+    -- a scan of entries with different keys finds the least of their map
+    pub least_of_is : (es : List (List ℕ × X)) → IsDistinct (pointwise nat_eq) (keys_of es) → least_of p es
+        ≡ least p (finite.from_entries es)
+    unfolding IsDistinct
+    least_of_is [] h = by (least p finite.empty) refl
+      where
+        by : (r : Option (List ℕ)) → least p finite.empty ≡ r → None ≡ r
+        by None e = refl
+        by (Some k) e =
+            let r = least_passes finite.empty k e in absurd (no_some r.0 (sym r.1 ∙ finite.get-empty id_cmp k))
+    least_of_is (x ∷ es) h =
+        ap (lesser (p x.0 x.1) x.0) (least_of_is es h.1)
+        ∙ sym (least-insert (finite.from_entries es) x.0 x.1
+        (finite.get-from_entries nat_list_cmp_total es x.0 ∙ none_after x.0 es h.0))
+
+    -- one step of a scan from the end
+    pub least_of_step : (xs : List (List ℕ × X)) (j i : ℕ) (k : List ℕ) (v : X) → suc j ≡ i → slice_get xs j
+        ≡ Some (k, v)
+        → least_of p (drop j xs) ≡ lesser (p k v) k (least_of p (drop i xs))
+    least_of_step xs j i k v e at =
+        ap (least_of p) (drop-cons xs j (k, v) (slice_get_within xs j (k, v) at)
+        ∙ ap (λ x. x ∷ drop (suc j) xs) (get_or_from_slice_get xs j (k, v) (k, v) at))
+        ∙ ap (λ n. lesser (p k v) k (least_of p (drop n xs))) e
+
+    -- its end
+    pub least_of_all : (xs : List (List ℕ × X)) (i : ℕ) → i ≡ 0 → IsDistinct (pointwise nat_eq) (keys_of xs)
+        → least_of p (drop i xs) ≡ least p (finite.from_entries xs)
+    least_of_all xs i e h = ap (λ n. least_of p (drop n xs)) e ∙ least_of_is xs h
+
   -- what passes in one map passes in the other, at the same key and with the same value
   abbrev pub Passes : (List ℕ → X → Bool) → finite.FinMap id_cmp X → (List ℕ → X → Bool)
       → finite.FinMap id_cmp X → Type 0
@@ -201,3 +299,18 @@ module _ {X : Type 0} where
           let r' = least_passes q n j b in
           let s' = back j r'.0 r'.1 r'.2 in
           ap Some (neither_below k j (least_first q n j b k r.0 s.0 s.1) (least_first p m k a j r'.0 s'.0 s'.1))
+
+one_more : (n : ℕ) → n + 1 ≡ suc n
+one_more n = omega arith
+
+-- entries with different keys make a map of as many
+pub len_is : {X : Type 0} (es : List (List ℕ × X)) → IsDistinct (pointwise nat_eq) (keys_of es)
+    → finite.len (finite.from_entries {R = id_cmp} es) ≡ length es
+unfolding IsDistinct
+len_is {X} [] h = finite.len-empty id_cmp X
+len_is (x ∷ es) h =
+    finite.len-insert nat_list_cmp_total (finite.from_entries es) x.0 x.1
+    ∙ ap (λ o. cond (is_some o) (finite.len (finite.from_entries {R = id_cmp} es)) (finite.len
+    (finite.from_entries {R = id_cmp} es) + 1))
+    (finite.get-from_entries nat_list_cmp_total es x.0 ∙ none_after (λ _ _. true) x.0 es h.0)
+    ∙ ap (λ n. n + 1) (len_is es h.1) ∙ one_more (length es)

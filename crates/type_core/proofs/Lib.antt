@@ -5,3 +5,4 @@ pub mod PlaceLemmas
 pub mod PutLemmas
 pub mod RemoveLemmas
 pub mod ReplaceLemmas
+pub mod KeptLemmas

@@ -89,7 +89,7 @@ module _ (m : Objects) (k : List ℕ) where
   found_without q = finite.get-remove nat_list_cmp_total m k q
 
   -- what is found was there under another identifier
-  there_before : (q : List ℕ) (v : ObjectValue) → finite.get without q ≡ Some v → (is_text q k
+  pub there_before : (q : List ℕ) (v : ObjectValue) → finite.get without q ≡ Some v → (is_text q k
       ≡ false) × (finite.get m q ≡ Some v)
   there_before q v is = by (eq_by_cmp id_cmp q k) refl (sym (found_without q) ∙ is)
     where
@@ -98,7 +98,7 @@ module _ (m : Objects) (k : List ℕ) where
       by true t f = absurd (no_some v (sym f))
       by false t f = (sym (same_id q k) ∙ t, f)
 
-  still_there : (q : List ℕ) → is_text q k ≡ false → finite.get without q ≡ finite.get m q
+  pub still_there : (q : List ℕ) → is_text q k ≡ false → finite.get without q ≡ finite.get m q
   still_there q e = found_without q ∙ ap (λ t. cond t None (finite.get m q)) (same_id q k ∙ e)
 
   gone : (q : List ℕ) → is_text q k ≡ true → finite.get without q ≡ None
@@ -153,7 +153,7 @@ module _ (m : Objects) (k : List ℕ) where
 
   module _ (old : ObjectValue) (at : finite.get m k ≡ Some old) (named : AreNamed m) (sound : IsSound m) where
     -- the type that the object makes is made by no other
-    lone_maker : (n : List ℕ) → makes n old ≡ true → maker without n ≡ None
+    pub lone_maker : (n : List ℕ) → makes n old ≡ true → maker without n ≡ None
     lone_maker n mk = by (maker without n) refl
       where
         by : (x : Option (List ℕ)) → maker without n ≡ x → x ≡ None

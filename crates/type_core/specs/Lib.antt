@@ -3,3 +3,4 @@ pub mod Content
 pub mod Checked
 pub mod Least
 pub mod Sound
+pub mod Kept

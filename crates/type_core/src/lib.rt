@@ -27,7 +27,7 @@ pub use content::{TypeContent, TypeFault, type_of};
 pub use failing::{Failure, first_failure};
 pub use law::{
     built_in_types_ask_nothing, puts_keep_soundness, removals_leave_what_leans,
-    replacements_leave_a_type, the_least_unsound_decides,
+    replacements_leave_a_type, the_least_unsound_decides, types_follow_changes,
 };
 pub use names::{is_built_in, name_given};
 pub use referring::{Typed, first_unmet};
