@@ -1,4 +1,5 @@
 pub mod LeastLemmas
+pub mod MapLemmas
 pub mod SoundLemmas
 pub mod PlainLemmas
 pub mod PlaceLemmas

@@ -4,3 +4,4 @@ pub mod Checked
 pub mod Least
 pub mod Sound
 pub mod Kept
+pub mod Types

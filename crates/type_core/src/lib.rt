@@ -22,6 +22,7 @@ mod names;
 mod referring;
 #[cfg(test)]
 mod tests;
+mod types;
 
 pub use content::{TypeContent, TypeFault, type_of};
 pub use failing::{Failure, first_failure};
@@ -31,3 +32,4 @@ pub use law::{
 };
 pub use names::{is_built_in, name_given};
 pub use referring::{Typed, first_unmet};
+pub use types::Types;

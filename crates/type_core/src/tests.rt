@@ -2,7 +2,7 @@
 ghost use Rattle.std.specs.Prelude.{◌≡◌};
 
 use crate::{
-    Failure, TypeContent, TypeFault, Typed, first_failure, first_unmet, name_given, type_of,
+    Failure, TypeContent, TypeFault, Typed, Types, first_failure, first_unmet, name_given, type_of,
 };
 use dobj_model::{Elements, Id, Metadata, Object, ObjectValue, TypeName};
 use doip_json::{Json, JsonMap, Str, read};
@@ -234,5 +234,40 @@ fn type_objects_alone_give_names(rt: HostRuntime) -> Result<(), Fail> {
     assert!(rt; gives(alloc, "0.TYPE/DO", attributes, None));
     assert!(rt; gives(alloc, "Schema", "{}", None));
     assert!(rt; gives(alloc, "Schema", r#"{"content":{"name":7}}"#, None));
+    Ok(())
+}
+
+// Keeps what a type object with these attributes states.
+fn keep(alloc: Global, types: &mut Types, attributes: &str) -> Option<()> {
+    let object = object(alloc, "Schema", attributes)?;
+    let content = type_of(alloc, &object).ok()?;
+    let name = String::from_str(alloc, content.name.get()).ok()?;
+    types.reserve().ok()?;
+    types.put(name, content);
+    Some(())
+}
+
+// The hook of a type, if the type is kept and has one.
+fn hook_of<'a>(types: &'a Types, name: &str) -> Option<&'a str> {
+    match &types.get(name)?.hook {
+        Some(hook) => Some(hook.get()),
+        None => None,
+    }
+}
+
+#[test]
+fn what_was_read_is_kept_by_name(rt: HostRuntime) -> Result<(), Fail> {
+    let alloc = rt.alloc();
+    let mut types = Types::new(alloc);
+    let card = r#"{"content":{"name":"Card","schema":{},"hook":"trim"}}"#;
+    keep(alloc, &mut types, card).ok_or("kept")?;
+    let other = r#"{"content":{"name":"Box","schema":{},"hook":"count"}}"#;
+    keep(alloc, &mut types, other).ok_or("kept")?;
+    assert!(rt; hook_of(&types, "Card") == Some("trim"));
+    assert!(rt; hook_of(&types, "Box") == Some("count"));
+    assert!(rt; types.get("card").is_none());
+    types.remove("Card");
+    assert!(rt; types.get("Card").is_none());
+    assert!(rt; hook_of(&types, "Box") == Some("count"));
     Ok(())
 }
