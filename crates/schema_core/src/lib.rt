@@ -38,5 +38,6 @@ pub use pointer::failure_pointer;
 pub use reading::schema_of;
 pub use schema::Schema;
 pub use validity::valid;
+pub use values::strings_of;
 pub use word::SchemaWord;
 pub use words::Words;

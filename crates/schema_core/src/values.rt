@@ -51,6 +51,16 @@ fn names_of(alloc: Global, items: &JsonList) -> Result<Option<Items<Str>>, Alloc
     Ok(Some(names))
 }
 
+/// The strings of an array, `None` exactly when the value is no array of strings alone. It copies them.
+pub fn strings_of(alloc: Global, value: &Json) -> Result<Option<Items<Str>>, AllocError>
+    ensures { IfOk result (λ found. found ≡ names_in (value_of value.now)) }
+{
+    match value {
+        Json::Items(items) => names_of(alloc, items),
+        _ => Ok(None),
+    }
+}
+
 fn one_kind(alloc: Global, value: &Json) -> Result<Option<Items<Kind>>, AllocError>
     ensures { IfOk result (λ found. found ≡ option_map (λ kind. kind ∷ []) (kind_in (value_of value.now))) }
 {
@@ -154,8 +164,8 @@ fn types_of(alloc: Global, handle: &Json) -> Result<Option<Items<Str>>, AllocErr
     ensures { IfOk result (λ found. found ≡ types_in (value_of handle.now)) }
 {
     match get(handle, "types") {
-        Some(Json::Items(items)) => Ok(some_of(names_of(alloc, items)?)),
-        _ => Ok(None),
+        Some(types) => Ok(some_of(strings_of(alloc, types)?)),
+        None => Ok(None),
     }
 }
 
