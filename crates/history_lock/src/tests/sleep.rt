@@ -62,12 +62,14 @@ fn add_both<R: Threads + Wait + Sync>(
     join_mut(
         rt,
         &mut ||
-            requires { IsSync R.row × (lock_of one.now ≡ id_of lock.now) }
+            requires sync { IsSync R.row }
+            requires one { lock_of one.now ≡ id_of lock.now }
             ensures lock { lock_of one.exit.now ≡ id_of lock.entry.now }
             ensures numbers { (k : ℕ) → held k (shares one.exit.now) ≡ held k (shares one.entry.now) }
         { add_slowly(rt, lock, one) },
         &mut ||
-            requires { IsSync R.row × (lock_of two.now ≡ id_of lock.now) }
+            requires sync { IsSync R.row }
+            requires two { lock_of two.now ≡ id_of lock.now }
             ensures lock { lock_of two.exit.now ≡ id_of lock.entry.now }
             ensures numbers { (k : ℕ) → held k (shares two.exit.now) ≡ held k (shares two.entry.now) }
         { add_slowly(rt, lock, two) },
@@ -104,5 +106,84 @@ fn a_thread_that_sleeps_is_woken_for_its_turn(rt: HostRuntime) -> Result<(), Fai
     passes.end();
     let slow = add_both_and_close(&rt, lock, one, two);
     assert!(rt; slow.sum == 40);
+    Ok(())
+}
+
+// Of three threads one takes its turn, one comes next, and the last sleeps while both take theirs.
+fn add_three<R: Threads + Wait + Sync>(
+    rt: &R,
+    lock: &Shared<SlowSum>,
+    one: &mut Pass<SlowSum>,
+    two: &mut Pass<SlowSum>,
+    three: &mut Pass<SlowSum>,
+)
+    requires one { lock_of one.old ≡ id_of lock.now }
+    requires two { lock_of two.old ≡ id_of lock.now }
+    requires three { lock_of three.old ≡ id_of lock.now }
+    ensures one_lock { lock_of one.new ≡ id_of lock.now }
+    ensures one_numbers { (k : ℕ) → held k (shares one.new) ≡ held k (shares one.old) }
+    ensures two_lock { lock_of two.new ≡ id_of lock.now }
+    ensures two_numbers { (k : ℕ) → held k (shares two.new) ≡ held k (shares two.old) }
+    ensures three_lock { lock_of three.new ≡ id_of lock.now }
+    ensures three_numbers { (k : ℕ) → held k (shares three.new) ≡ held k (shares three.old) }
+{
+    join_mut(
+        rt,
+        &mut ||
+            requires sync { IsSync R.row }
+            requires one { lock_of one.now ≡ id_of lock.now }
+            ensures lock { lock_of one.exit.now ≡ id_of lock.entry.now }
+            ensures numbers { (k : ℕ) → held k (shares one.exit.now) ≡ held k (shares one.entry.now) }
+        { add_slowly(rt, lock, one) },
+        &mut ||
+            requires sync { IsSync R.row }
+            requires two { lock_of two.now ≡ id_of lock.now }
+            requires three { lock_of three.now ≡ id_of lock.now }
+            ensures two_lock { lock_of two.exit.now ≡ id_of lock.entry.now }
+            ensures two_numbers { (k : ℕ) → held k (shares two.exit.now) ≡ held k (shares two.entry.now) }
+            ensures three_lock { lock_of three.exit.now ≡ id_of lock.entry.now }
+            ensures three_numbers { (k : ℕ) → held k (shares three.exit.now) ≡ held k (shares three.entry.now) }
+        { add_both(rt, lock, two, three) },
+    );
+}
+
+fn add_three_and_close<R: Threads + Wait + Sync>(
+    rt: &R,
+    lock: Shared<SlowSum>,
+    mut one: Pass<SlowSum>,
+    mut two: Pass<SlowSum>,
+    mut three: Pass<SlowSum>,
+) -> SlowSum
+    requires count { passes_of lock ≡ 3 }
+    requires one { IsFresh (id_of lock) 0 one }
+    requires two { IsFresh (id_of lock) 1 two }
+    requires three { IsFresh (id_of lock) 2 three }
+{
+    add_three(rt, &lock, &mut one, &mut two, &mut three);
+    lock.join(&mut one, two);
+    lock.join(&mut one, three);
+    let (slow, _past) = lock.close(one);
+    slow
+}
+
+#[test]
+fn a_thread_that_sleeps_through_the_turns_of_others_is_woken_for_its_own(
+    rt: HostRuntime,
+) -> Result<(), Fail> {
+    let Ok((lock, mut passes)) = Shared::open(rt.alloc(), SlowSum { sum: 0 }, 3) else {
+        panic!(rt; "no memory")
+    };
+    let Some(one) = passes.take() else {
+        panic!(rt; "no pass")
+    };
+    let Some(two) = passes.take() else {
+        panic!(rt; "no second pass")
+    };
+    let Some(three) = passes.take() else {
+        panic!(rt; "no third pass")
+    };
+    passes.end();
+    let slow = add_three_and_close(&rt, lock, one, two, three);
+    assert!(rt; slow.sum == 60);
     Ok(())
 }
