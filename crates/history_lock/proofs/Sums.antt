@@ -89,3 +89,6 @@ added-append = total-append (λ s. total (λ e. e) s.own)
 
 pub one_of_two : (k : ℕ) → k < 2 → 0 < same k 0 + same k 1
 one_of_two k l = let zero = below_next k 0 in let one = below_next k 1 in let none = below_not k 0 (omega arith) in let all = below_one k 2 l in omega arith
+
+pub one_of_three : (k : ℕ) → k < 3 → 0 < same k 0 + same k 1 + same k 2
+one_of_three k l = let zero = below_next k 0 in let one = below_next k 1 in let two = below_next k 2 in let none = below_not k 0 (omega arith) in let all = below_one k 3 l in omega arith

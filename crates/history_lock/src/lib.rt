@@ -11,10 +11,10 @@
 //! no runtime, so they wait for nobody: a mutex round the value and all passes could not have these signatures.
 //! [`Counter`] is an example of a value. `src/laws.rt` has laws that callers need of histories and shares.
 //!
-//! In `apply` a thread whose turn comes next spins for a short time and then sleeps, and the others sleep. At the end
-//! of a turn the thread whose turn has come is woken if it sleeps, and so is the one that comes next then. A turn for
-//! which nobody waits makes no system call. In `meet`, `join` and `close` nothing waits, and only `open` takes memory.
-//! No clause says that a turn comes, or in which order two passes that never met took theirs.
+//! In `apply` a thread whose turn comes next spins for a short time and then sleeps, and the others sleep. The end of a
+//! turn wakes one thread, the one whose turn has come, if it sleeps. A turn for which nobody waits makes no system
+//! call. In `meet`, `join` and `close` nothing waits, and only `open` takes memory. No clause says that a turn comes,
+//! or in which order two passes that never met took theirs.
 #![tactic(auto)]
 
 mod board;

@@ -29,10 +29,8 @@ impl Places {
         &self.places[(ticket % COUNT) as usize]
     }
 
-    /// After a turn ended, wakes the thread whose turn has come with this ticket, if it sleeps, and the one that now
-    /// comes next.
+    /// After a turn ended, wakes the thread whose turn has come with this ticket, if it sleeps, and no other.
     pub(crate) fn wake(&self, ticket: u64) {
         self.at(ticket).notify_one();
-        self.at(ticket.wrapping_add(1)).notify_one();
     }
 }

@@ -2,7 +2,7 @@
 ghost use Rattle.std.specs.Prelude.{◌≡◌, ℕ, ◌+◌, ◌*◌, ◌%◌, ◌^◌, ◌<◌, false, [], ◌∷◌, length, Some};
 ghost use Rattle.history_lock.specs.History.{FirstIs, Leads};
 ghost use Rattle.history_lock.specs.Rule.{number_word};
-ghost use Rattle.history_lock.specs.Told.{IsResting, waiting, Arrives, IsServing, HasServed, Serves};
+ghost use Rattle.history_lock.specs.Told.{IsIdle, waiting, Arrives, IsServing, HasServed, Serves};
 
 use crate::board::PassSeat;
 use crate::lock::Shared;
@@ -22,8 +22,10 @@ pub(crate) const SERVING: usize = STRIDE;
 
 pub(crate) fn draw<T: Turned>(lock: &Shared<T>, seat: &mut PassSeat<T>) -> u64
     requires table { seat.old.table_id ≡ lock.now.table.shared.table_id }
-    requires rests { IsResting seat.old.me.0 × (0 < length seat.old.me.0.shares) × (seat.old.me.1 ≡ []) }
-    ensures table { (seat.new.table_id ≡ seat.old.table_id) × (seat.new.id ≡ seat.old.id) }
+    requires idle { IsIdle seat.old.me }
+    requires some { 0 < length seat.old.me.0.shares }
+    ensures table { seat.new.table_id ≡ seat.old.table_id }
+    ensures id { seat.new.id ≡ seat.old.id }
     ensures drawn { (t : ℕ) × (result ≡ t % 2 ^ 64) × (seat.new.me ≡ (waiting seat.old.me.0 t, [])) }
 {
     lock.table.shared.fetch_add::<Draw>(seat, TICKET, 1)
@@ -48,11 +50,13 @@ fn spin<T: Turned>(lock: &Shared<T>, serving: u64) -> bool {
     false
 }
 
-// Waits a while. A thread that comes next spins at first, and the others sleep until they come next.
+// Waits a while. A thread that comes next spins at first, and the others sleep until their turn has come.
 fn hold_on<T: Turned, R: Wait>(rt: &R, lock: &Shared<T>, ticket: u64, serving: u64) {
     if ticket.wrapping_sub(serving) == 1 && spin(lock, serving) {
         return;
     }
+    // A turn ends by a change of the word and then a wake. The look comes after the sleep is announced, so no wake is
+    // lost.
     let place = lock.places.at(ticket);
     let key = place.prepare_wait();
     if lock.table.shared.peek(SERVING) == serving {
@@ -68,9 +72,11 @@ pub(crate) fn wait_turn<T: Turned, R: Wait>(
 )
     requires table { seat.old.table_id ≡ lock.now.table.shared.table_id }
     requires first { seat.old.me.0.first ≡ Some lock.now.table.shared.key.first.value }
-    requires waits { (t : ℕ) × (ticket ≡ t % 2 ^ 64) × (seat.old.me.0.tickets ≡ t ∷ [])
-        × (seat.old.me.0.come ≡ false) × (seat.old.me.1 ≡ []) }
-    ensures table { (seat.new.table_id ≡ seat.old.table_id) × (seat.new.id ≡ seat.old.id) }
+    requires waits { (t : ℕ) × (ticket ≡ t % 2 ^ 64) × (seat.old.me.0.tickets ≡ t ∷ []) }
+    requires not_come { seat.old.me.0.come ≡ false }
+    requires no_slot { seat.old.me.1 ≡ [] }
+    ensures table { seat.new.table_id ≡ seat.old.table_id }
+    ensures id { seat.new.id ≡ seat.old.id }
     ensures come { Arrives (Leads T.step) lock.now.table.shared.key.first.value seat.old.me seat.new.me }
 {
     for _ in rt.forever() {
@@ -88,7 +94,8 @@ fn serve<T: Turned>(lock: &Shared<T>, seat: &mut PassSeat<T>, call: T::Call) -> 
     requires table { seat.old.table_id ≡ lock.now.table.shared.table_id }
     requires serving { IsServing (Leads T.step) lock.now.table.shared.key.first.value seat.old.me }
     requires call { T.may_take call }
-    ensures table { (seat.new.table_id ≡ seat.old.table_id) × (seat.new.id ≡ seat.old.id) }
+    ensures table { seat.new.table_id ≡ seat.old.table_id }
+    ensures id { seat.new.id ≡ seat.old.id }
     ensures served { HasServed T.step lock.now.table.shared.key.first.value seat.old.me call result seat.new.me }
 {
     let slot = seat.slot_mut(&lock.table.shared, 0);
@@ -107,7 +114,8 @@ pub(crate) fn take_turn<T: Turned>(
     requires number { FirstIs number seat.old.me.0.shares }
     requires serving { IsServing (Leads T.step) lock.now.table.shared.key.first.value seat.old.me }
     requires call { T.may_take call }
-    ensures table { (seat.new.table_id ≡ seat.old.table_id) × (seat.new.id ≡ seat.old.id) }
+    ensures table { seat.new.table_id ≡ seat.old.table_id }
+    ensures id { seat.new.id ≡ seat.old.id }
     ensures turn { Serves T.step lock.now.table.shared.key.first.value seat.old.me call result seat.new.me }
 {
     let answer = serve(lock, seat, call);

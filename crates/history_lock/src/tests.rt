@@ -266,14 +266,17 @@ fn add_all<R: Threads + Wait + Sync>(
     join_mut(
         rt,
         &mut ||
-            requires { IsSync R.row × (lock_of first.now ≡ id_of lock.now) }
+            requires sync { IsSync R.row }
+            requires first { lock_of first.now ≡ id_of lock.now }
             ensures lock { lock_of first.exit.now ≡ id_of lock.entry.now }
             ensures numbers { (k : ℕ) → held k (shares first.exit.now) ≡ held k (shares first.entry.now) }
             ensures turns { turns_of (shares first.exit.now) ≡ turns_of (shares first.entry.now) + 1000 }
             ensures added { added_of (shares first.exit.now) ≡ added_of (shares first.entry.now) + 1000 }
         { add_often(rt, lock, first) },
         &mut ||
-            requires { IsSync R.row × (lock_of next ≡ id_of lock.now) × (lock_of_all passes.now ≡ id_of lock.now) }
+            requires sync { IsSync R.row }
+            requires next { lock_of next ≡ id_of lock.now }
+            requires passes { lock_of_all passes.now ≡ id_of lock.now }
             ensures lock { lock_of next.exit ≡ id_of lock.entry.now }
             ensures numbers { (k : ℕ) → held k (shares next.exit) + below k (taken_of passes.entry.now)
                 ≡ held k (shares next.entry) + below k (all_of passes.entry.now) }

@@ -9,7 +9,7 @@ load-serving-requires g c = let words = c.args.lock.now.sized in let w = c.requi
   c.loop.invariant.0 ∙ c.requires.table,
   omega arith,
   looks (Leads g.T.Turned.step) c.args.lock.now.table.shared.key.first.value c.args.lock.now.table.shared.key.passes _ _ c.loop.seat.me w.0
-      (ap (λ m. m.0.tickets) same ∙ w.2) (ap (λ m. m.0.first) same ∙ c.requires.first) (ap (λ m. m.0.come) same ∙ w.3) (ap (λ m. m.1) same ∙ w.4),
+      (ap (λ m. m.0.tickets) same ∙ w.2) (ap (λ m. m.0.first) same ∙ c.requires.first) (ap (λ m. m.0.come) same ∙ c.requires.not_come) (ap (λ m. m.1) same ∙ c.requires.no_slot),
 )
 
 pub returns-then-serving-ticket-clause-come : goal.returns-then-serving-ticket-clause-come
