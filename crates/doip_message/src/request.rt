@@ -13,8 +13,8 @@ pub enum Body {
     Parts(Message),
 }
 
-/// What a client asks.
-#[derive(Debug, Drop)]
+/// What a client asks. It has no `Debug`, which would print credentials.
+#[derive(Drop)]
 pub struct Request {
     /// The client's id of this request, which the response repeats.
     pub request_id: Option<Str>,

@@ -3,7 +3,7 @@ ghost use Rattle.std.specs.Prelude.{IfOk};
 ghost use Rattle.std.specs.List.{All};
 ghost use Rattle.journal_core.specs.Journal.{IsNumbered};
 
-use super::{bytes_of, file_of, journal_on, stamp, three};
+use super::{bytes_of, file_of, filled, journal_on, stamp, three};
 use crate::{CommitFault, Journal, OpenFault, Record, Records, Room};
 use base_core::{Bytes, Items};
 use disk_core::{Disk, DiskCall, Failing, FusedDisk, MemoryDisk};
@@ -55,6 +55,24 @@ fn what_does_not_fit_is_not_compacted(rt: HostRuntime) -> Result<(), Fail> {
     Ok(())
 }
 
+#[test]
+fn a_full_area_is_not_compacted_to_more_than_it_holds(rt: HostRuntime) -> Result<(), Fail> {
+    let alloc = rt.alloc();
+    let (mut journal, fault) = filled(alloc, 224, 165)?;
+    assert_eq!(rt; fault, None);
+    let before = journal.disk().file().to_vec(alloc)?;
+    // A counter's body and an object's, each with its 57 bytes.
+    let full = CommitFault::Full {
+        used: 2,
+        asked: 288,
+    };
+    let fault = journal.compact(&records_of(alloc, 9, 165)?).err();
+    assert_eq!(rt; fault, Some(full));
+    assert_eq!(rt; before.len(), 256);
+    assert_eq!(rt; journal.into_disk().file(), before.as_slice());
+    Ok(())
+}
+
 // A file of format 1 with areas of 256 bytes and the bodies `abc` and nothing.
 fn first_file(alloc: Global) -> Result<Vec<u8>, Fail> {
     let area = bytes_of(
@@ -82,6 +100,11 @@ fn a_file_of_format_1_is_migrated(rt: HostRuntime) -> Result<(), Fail> {
         return Err("not migrated".into());
     };
     assert_eq!(rt; journal.side(), 1);
+    let room = Room {
+        used: 175,
+        area: 256,
+    };
+    assert_eq!(rt; journal.room(), room);
     let Err((disk, fault)) = Journal::open_first(alloc, journal.into_disk()) else {
         return Err("format 2 is read as format 1".into());
     };
@@ -217,5 +240,33 @@ fn pieces_are_of_64_kib_or_more(rt: HostRuntime) -> Result<(), Fail> {
     assert_eq!(rt; small.as_slice(), [65_536, 116, 0, 1, 0].as_slice());
     let large = pieces_of(alloc, 200_000)?;
     assert_eq!(rt; large.as_slice(), [65_536, 134_490, 90, 0, 1, 0].as_slice());
+    Ok(())
+}
+
+#[test]
+fn an_area_is_read_once_in_pieces(rt: HostRuntime) -> Result<(), Fail> {
+    let alloc = rt.alloc();
+    let mut journal = journal_on(alloc, MemoryDisk::new(alloc, &[], &[])?, 400_000)?;
+    assert!(rt; journal.compact(&records_of(alloc, 200_000, 0)?).is_ok());
+    let disk = journal.into_disk();
+    let before = disk.calls().len();
+    let Ok((journal, entries)) = Journal::open(alloc, disk) else {
+        return Err("not opened".into());
+    };
+    assert_eq!(rt; entries.len(), 2);
+    let body = vec![in alloc; 7; 200_000]?;
+    assert_eq!(rt; entries.item(0).body.get(), body.as_slice());
+    assert_eq!(rt; entries.item(1).body.get().len(), 0);
+    let mut calls = Vec::new(alloc);
+    for noted in journal.disk().calls().iter().skip(before) {
+        calls.push((noted.call, noted.place))?;
+    }
+    assert_eq!(rt; calls.len(), 6);
+    assert_eq!(rt; calls[0], (DiskCall::Length, 0));
+    // The header; a piece; the rest of the long body, which is longer than a piece; what follows it; and no more bytes.
+    let places = [0, 400_032, 465_568, 600_058, 600_148];
+    for index in 0..5 {
+        assert_eq!(rt; calls[index + 1], (DiskCall::ReadAt, places[index]));
+    }
     Ok(())
 }
