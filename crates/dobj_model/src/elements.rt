@@ -3,7 +3,7 @@ ghost use Rattle.std.specs.Prelude.{◌≡◌, ◌≢◌, ◌<◌, ◌↔◌, []
 ghost use Rattle.std.specs.Prelude.{slice_get, Some, IsTrue, nat_eq, option_map};
 ghost use Rattle.std.specs.Option.{SomeIff};
 ghost use Rattle.std.specs.Cmp.Lexicographic.{pointwise};
-ghost use Rattle.dobj_model.specs.Elements.{AreElements, element_bound, ids_of};
+ghost use Rattle.dobj_model.specs.Elements.{AreElements, ids_of};
 
 use crate::id::Id;
 use base_core::Bytes;
@@ -14,7 +14,7 @@ use std::marker::Model;
 /// The most elements of an object.
 const MOST: usize = 1000;
 /// An element has fewer bytes.
-const BOUND: usize = 10_000_000_000;
+pub(crate) const BOUND: usize = 10_000_000_000;
 
 /// An element of an object: bytes, and what describes them.
 #[derive(Debug, Drop)]
@@ -129,18 +129,19 @@ fn fits(items: &[Element]) -> bool
     if items.len() > MOST {
         return false;
     }
-    if !are_small(items) {
+    if !are_small(items, BOUND) {
         return false;
     }
     differ(items)
 }
 
-fn are_small(items: &[Element]) -> bool
-    ensures { IsTrue result ↔ All (λ e. length e.bytes < element_bound) items.now }
+/// Whether each element has fewer bytes than the bound. The bound is an argument, so that a test can meet it.
+pub(crate) fn are_small(items: &[Element], bound: usize) -> bool
+    ensures { IsTrue result ↔ All (λ e. length e.bytes < bound) items.now }
 {
     items
         .iter()
-        .all(|element| element.bytes.get().len() < BOUND)
+        .all(|element| element.bytes.get().len() < bound)
 }
 
 // Whether no two elements have one identifier.

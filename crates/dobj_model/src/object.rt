@@ -1,11 +1,12 @@
 //! An object, and what it is made of.
-ghost use Rattle.std.specs.Prelude.{◌≡◌, ◌↔◌, IsTrue, codes, option_map};
+ghost use Rattle.std.specs.Prelude.{◌≡◌, ◌≤◌, ◌↔◌, IsTrue, None, codes, length, option_map};
 ghost use Rattle.std.specs.Option.{SomeIff};
 ghost use Rattle.doip_json.specs.Sound.{IsSound};
 ghost use Rattle.doip_json.specs.Value.{list, entries_from, values_from};
 ghost use Rattle.doip_json.specs.Meaning.{value_of};
 ghost use Rattle.doip_json.specs.Look.{entry_of, field_of};
-ghost use Rattle.dobj_model.specs.Object.{IsObject, IfThere, IsTextList, access_list};
+ghost use Rattle.doip_json.specs.Text.{text_of};
+ghost use Rattle.dobj_model.specs.Object.{IsObject, IsMetadata, IfThere, IsTextList, access_list};
 ghost use Rattle.dobj_model.specs.Shown.{shown_form};
 
 use crate::attributes::are_attributes;
@@ -18,7 +19,7 @@ use doip_json::{Json, JsonList, JsonMap, get};
 use std::marker::Model;
 
 /// The most bytes of the text of a shown form.
-const LONGEST_TEXT: u64 = 0xffff_ffff;
+pub(crate) const LONGEST_TEXT: u32 = 0xffff_ffff;
 
 /// What an object is made of. Contracts see an object as this.
 #[derive(Debug, Drop)]
@@ -164,7 +165,17 @@ fn fits(value: &ObjectValue) -> bool
     if !nests(value) {
         return false;
     }
-    shown_length(value) <= LONGEST_TEXT
+    is_short(value, LONGEST_TEXT)
+}
+
+/// Whether the text of the shown form has at most so many bytes. The bound is an argument, so that a test can meet it.
+pub(crate) fn is_short(value: &ObjectValue, longest: u32) -> bool
+    requires apart { entry_of (codes "metadata") (entries_from value.now.attributes) ≡ None }
+    requires metadata { IsMetadata value.now.metadata }
+    ensures short { IsTrue result ↔ (length (text_of (shown_form value.now)) ≤ longest) }
+    ensures sound { IsSound (shown_form value.now) }
+{
+    shown_length(value) <= longest as u64
 }
 
 // The array at the key, of an object that has nothing else there.

@@ -1,4 +1,6 @@
 //! What an object keeps, each bound and one past it, and what is shown of it.
+use crate::elements::{BOUND, are_small};
+use crate::object::{LONGEST_TEXT, is_short};
 use crate::{
     Element, Elements, Id, Metadata, Object, ObjectValue, TypeName, append_text, copy_object,
     object_json, object_parts, text_length,
@@ -208,6 +210,41 @@ fn the_shown_form_is_written_as_text_and_as_a_value(rt: HostRuntime) -> Result<(
     assert!(rt; shown(alloc, &object)?.as_slice() == want.as_bytes());
     assert!(rt; value_text(alloc, &object)?.get() == want.as_bytes());
     assert_eq!(rt; text_length(&object), want.len() as u64);
+    Ok(())
+}
+
+// Whether the example's shown form is short enough where its text may have so many bytes.
+fn is_example_short(alloc: Global, longest: u32) -> Result<bool, Fail> {
+    let object = example(alloc)?;
+    Ok(is_short(object.value(), longest))
+}
+
+#[test]
+fn a_shown_form_is_short_at_the_bound_and_not_past_it(rt: HostRuntime) -> Result<(), Fail> {
+    let alloc = rt.alloc();
+    assert_eq!(rt; LONGEST_TEXT, 4_294_967_295);
+    assert_eq!(rt; example_text().len(), 237);
+    let rows = [(238, true), (237, true), (236, false)];
+    for row in &rows {
+        assert_eq!(rt; is_example_short(alloc, row.0)?, row.1);
+    }
+    Ok(())
+}
+
+// Whether an element of five bytes is small where each has fewer than the bound.
+fn is_element_small(alloc: Global, bound: usize) -> Result<bool, Fail> {
+    let elements = elements_of(alloc, "{}")?;
+    Ok(are_small(elements.as_slice(), bound))
+}
+
+#[test]
+fn an_element_is_small_below_the_bound_and_not_at_it(rt: HostRuntime) -> Result<(), Fail> {
+    let alloc = rt.alloc();
+    assert_eq!(rt; BOUND, 10_000_000_000);
+    let rows = [(7, true), (6, true), (5, false)];
+    for row in &rows {
+        assert_eq!(rt; is_element_small(alloc, row.0)?, row.1);
+    }
     Ok(())
 }
 
