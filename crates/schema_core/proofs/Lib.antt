@@ -7,3 +7,4 @@ pub mod ShapeLemmas
 pub mod ReadingLemmas
 pub mod ReferenceLemmas
 pub mod OneFirst
+pub mod PassingLemmas

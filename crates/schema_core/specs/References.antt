@@ -1,5 +1,6 @@
 -- The references in a value: this project's own word `cordra`.
-use Rattle.std.specs.Prelude.{ℕ, ◌+◌, List, [], ◌∷◌, ◌++◌, decimal, Option, Some, None, option_map, unwrap_or}
+use Rattle.std.specs.List.{list_all}
+use Rattle.std.specs.Prelude.{Bool, ℕ, ◌+◌, List, [], ◌∷◌, ◌++◌, decimal, Option, Some, None, option_map, unwrap_or}
 use Rattle.doip_json.specs.Value.{Value, null, truth, whole, text, list, table, Values, no_values, value, Entries, no_entries, entry}
 use Rattle.doip_json.specs.Written.{pointer_of}
 use Rattle.schema_core.specs.declared.collecting.Reference.{Reference}
@@ -41,3 +42,7 @@ abbrev mutual
 -- the references in a value
 abbrev pub references_in : Rules → Value → List Reference
 references_in = references_at []
+
+-- a test of identifier and types holds of every reference
+abbrev pub all_pass : (List ℕ → List (List ℕ) → Bool) → List Reference → Bool
+all_pass test = list_all (λ r. test r.id r.types)

@@ -7,3 +7,4 @@ pub mod PutLemmas
 pub mod RemoveLemmas
 pub mod ReplaceLemmas
 pub mod KeptLemmas
+pub mod FitLemmas

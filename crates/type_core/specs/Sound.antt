@@ -51,11 +51,14 @@ rules_at objects name = if is_built_in name then Some plain else option_and_then
 abbrev pub is_of : Objects → List ℕ → List ℕ → Bool
 is_of objects id type_name = option_map_or (λ o. is_text o.type_name type_name) (finite.get objects id) false
 
--- the content is valid to the schema, and its references are met
+-- the content is valid to the schema, and its references are met by those of which the test holds
+abbrev pub fits_among : (List ℕ → List ℕ → Bool) → ObjectValue → Rules → Bool
+fits_among is_of o schema =
+    is_none (first_failing schema o) && is_none (first_unmet is_of (references_in schema (checked_content o)))
+
+-- the same, by the objects
 abbrev pub fits : Objects → ObjectValue → Rules → Bool
-fits objects o schema =
-    is_none (first_failing schema o)
-    && is_none (first_unmet (is_of objects) (references_in schema (checked_content o)))
+fits objects = fits_among (is_of objects)
 
 -- the other object makes a type of the same name
 abbrev pub makes_same : ObjectValue → ObjectValue → Bool

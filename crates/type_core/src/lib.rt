@@ -16,6 +16,7 @@
 
 mod content;
 mod failing;
+mod fitting;
 mod law;
 mod lists;
 mod names;
@@ -26,6 +27,7 @@ mod types;
 
 pub use content::{TypeContent, TypeFault, type_of};
 pub use failing::{Failure, first_failure};
+pub use fitting::{fits, leans_on, makes};
 pub use law::{
     built_in_types_ask_nothing, puts_keep_soundness, removals_leave_what_leans,
     replacements_leave_a_type, the_least_unsound_decides, types_follow_changes,
