@@ -1,0 +1,6 @@
+pub mod Saved
+pub mod Stands
+pub mod Store
+pub mod Opening
+pub mod Survival
+pub mod Law

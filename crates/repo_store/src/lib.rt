@@ -1,0 +1,22 @@
+//! The repository on a disk, taken in turns.
+//!
+//! Read `Store::turn` first: its clause `turn` says what one turn does, and what a crash at any moment may leave. `laws`
+//! says what any list of turns leaves.
+#![tactic(auto)]
+
+mod fault;
+mod laws;
+mod opening;
+mod planner;
+mod saving;
+mod store;
+#[cfg(test)]
+mod tests;
+mod work;
+
+pub use fault::StoreFault;
+pub use laws::{images_keep_their_contents, runs_are_histories, runs_survive_crashes};
+pub use opening::NotOpened;
+pub use planner::{Planner, Service};
+pub use store::Store;
+pub use work::{ReplyText, Told, Work};
