@@ -11,7 +11,8 @@ use std::test::Fail;
 // The SHA-256 of `abc`, an example of FIPS 180-4.
 const FILE: &[u8] = b"{\"admin\":\"admin\",\"accounts\":[\
     {\"id\":\"admin\",\"salt\":\"a\",\"hash\":\"ba7816bf8f01cfea414140de5dae2223b00361a396177a9cb410ff61f20015ad\"},\
-    {\"id\":\"alice\",\"salt\":\"ab\",\"hash\":\"BA7816BF8F01CFEA414140DE5DAE2223B00361A396177A9CB410FF61F20015AD\"}]}";
+    {\"id\":\"alice\",\"salt\":\"ab\",\"hash\":\"BA7816BF8F01CFEA414140DE5DAE2223B00361A396177A9CB410FF61F20015AD\"},\
+    {\"id\":\"bob\",\"salt\":\"\",\"hash\":\"ba7816bf8f01cfea414140de5dae2223b00361a396177a9cb410ff61f20015ad\"}]}";
 
 // Who calls, or why nobody does.
 fn named(alloc: Global, accounts: &Accounts, text: &str) -> Result<String, Fail> {
@@ -36,7 +37,9 @@ fn callers_are_named_by_their_passwords(rt: HostRuntime) -> Result<(), Fail> {
     };
     let rows = [
         ("\"admin\"", "\"bc\"", "admin true"),
+        ("\"admin\"", "\"x\"", "not authentic"),
         ("\"alice\"", "\"c\"", "alice false"),
+        ("\"bob\"", "\"abc\"", "bob false"),
         ("\"alice\"", "\"x\"", "not authentic"),
         ("\"alice\"", "\"\"", "not authentic"),
         ("\"alice\"", "\"bc\"", "not authentic"),

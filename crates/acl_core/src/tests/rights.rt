@@ -21,6 +21,20 @@ impl Groups for OneGroup {
     }
 }
 
+// The same once the group is removed.
+#[derive(Clone, Copy)]
+struct NoGroup;
+
+impl Groups for NoGroup {
+    ghost use Rattle.acl_core.specs.Example.{is_in_none};
+
+    ghost is_in = { λ _. is_in_none };
+
+    fn has(&self, _group: &str, _user: &str) -> bool {
+        false
+    }
+}
+
 // The callers, each with the letter that stands for it below: `-` is anonymous, `r` the admin.
 const CALLERS: [(&str, &str); 6] = [
     ("-", ""),
@@ -184,5 +198,16 @@ fn the_lists_of_an_object_hide_those_of_its_type(rt: HostRuntime) -> Result<(), 
             "at {acl}"
         );
     }
+    Ok(())
+}
+
+#[test]
+fn a_group_that_is_removed_grants_nothing(rt: HostRuntime) -> Result<(), Fail> {
+    let alloc = rt.alloc();
+    let usual = lists(alloc, "public", "creator", "authenticated")?;
+    let object = object(alloc, "{\"readers\":[\"g\"]}")?;
+    let alice = caller(alloc, "alice")?;
+    assert!(rt; may(&alice, Right::Read, &object, &usual, &OneGroup));
+    assert!(rt; !may(&alice, Right::Read, &object, &usual, &NoGroup));
     Ok(())
 }
