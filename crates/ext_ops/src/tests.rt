@@ -184,6 +184,18 @@ fn a_value_is_picked_and_no_second_pick_is_added(rt: HostRuntime) -> Result<(), 
     assert!(rt; is_twice(extensions.add(again), "ext/Op.Pick"));
     assert_eq!(rt; extensions.operations().len(), 1);
     assert_eq!(rt; extensions.operations().name(0), "ext/Op.Pick");
+    // The repository has this operation itself; it is kept all the same.
+    let own = Extension {
+        code: ExtCode::Digest,
+        operation: id(alloc, "0.DOIP/Op.Hello").expect(&rt, "an identifier"),
+        call: Box::new(
+            alloc,
+            move |object: &Object, arguments: &JsonMap| digest(alloc, object, arguments),
+        )
+        .expect(&rt, "memory"),
+    };
+    extensions.add(own).expect(&rt, "added");
+    assert_eq!(rt; extensions.operations().name(1), "0.DOIP/Op.Hello");
     let rows = [
         (r#"{"pointer":"/k"}"#, r#"{"value":"x"}"#),
         (r#"{"pointer":"/a~1b/0"}"#, r#"{"value":7}"#),
