@@ -98,17 +98,17 @@ fn operators_find_what_they_join(rt: HostRuntime) -> Result<(), Fail> {
     Ok(())
 }
 
-// The identifiers on a page of what the query finds, and how many it finds, among five objects of one content.
-fn page_of(alloc: Global, text: &str, sorting: &str, size: u64) -> Result<(String, usize), Fail> {
-    let ids = [
-        "35.TEST/a1",
-        "35.TEST/a2",
-        "35.TEST/a3",
-        "35.TEST/a4",
-        "35.TEST/a5",
-    ];
+// The identifiers on a page of what the query finds, and how many it finds, among objects of one content.
+fn page_of(
+    alloc: Global,
+    ids: &[&str],
+    text: &str,
+    sorting: &str,
+    number: u64,
+    size: Option<u64>,
+) -> Result<(String, usize), Fail> {
     let mut objects = Vec::new(alloc);
-    for id in &ids {
+    for id in ids {
         objects.push(object(alloc, id, "{\"k\":\"x\"}")?)?;
     }
     let mut hits = Hits::none(alloc);
@@ -123,7 +123,7 @@ fn page_of(alloc: Global, text: &str, sorting: &str, size: u64) -> Result<(Strin
         Err(_) => return Err(Fail::from("no query")),
     }
     let mut found = String::new(alloc);
-    for hit in page(alloc, &order(alloc, sorting)?, &hits, 0, Some(size))?.as_slice() {
+    for hit in page(alloc, &order(alloc, sorting)?, &hits, number, size)?.as_slice() {
         found.push_str(hit.id().get())?;
     }
     Ok((found, hits.as_slice().len()))
@@ -131,8 +131,32 @@ fn page_of(alloc: Global, text: &str, sorting: &str, size: u64) -> Result<(Strin
 
 #[test]
 fn a_search_is_sorted_and_cut(rt: HostRuntime) -> Result<(), Fail> {
-    let found = page_of(rt.alloc(), "NOT id:\"35.TEST/a2\" AND /k:x", "id DESC", 2)?;
+    let ids = [
+        "35.TEST/a1",
+        "35.TEST/a2",
+        "35.TEST/a3",
+        "35.TEST/a4",
+        "35.TEST/a5",
+    ];
+    let query = "NOT id:\"35.TEST/a2\" AND /k:x";
+    let found = page_of(rt.alloc(), &ids, query, "id DESC", 0, Some(2))?;
     assert_eq!(rt; found.0.as_str(), "35.TEST/a535.TEST/a4");
     assert_eq!(rt; found.1, 4);
+    Ok(())
+}
+
+// A page counts all hits, also where none of them is on it.
+#[test]
+fn a_page_may_have_none_of_the_hits(rt: HostRuntime) -> Result<(), Fail> {
+    let alloc = rt.alloc();
+    let ids = ["35.TEST/a1", "35.TEST/a4"];
+    let none = page_of(alloc, &ids, "/k:x", "id", 0, Some(0))?;
+    assert_eq!(rt; none.0.as_str(), "");
+    assert_eq!(rt; none.1, 2);
+    let all = page_of(alloc, &ids, "/k:x", "id", 0, None)?;
+    assert_eq!(rt; all.0.as_str(), "35.TEST/a135.TEST/a4");
+    let past = page_of(alloc, &ids, "/k:x", "id", 9, Some(1))?;
+    assert_eq!(rt; past.0.as_str(), "");
+    assert_eq!(rt; past.1, 2);
     Ok(())
 }
