@@ -1,7 +1,8 @@
 //! How a lock is opened, and its passes are dealt.
 ghost use Rattle.std.specs.Prelude.{◌≡◌, ◌+◌, ◌-◌, ◌<◌, ◌≤◌, [], ◌∷◌, ◌++◌, IfOk, IfErr, IfSome, IsNone, ◌↔◌, vec_len, vec_capacity};
 ghost use Rattle.history_lock.specs.Rule.{opening_view};
-ghost use Rattle.history_lock.specs.Passes.{id_of, first_of, passes_of, lock_of_all, all_of, left_of, taken_of, IsFresh, AreDealt};
+ghost use Rattle.history_lock.specs.History.{share_of};
+ghost use Rattle.history_lock.specs.Passes.{id_of, first_of, passes_of, lock_of, lock_of_all, seen, shares, all_of, left_of, taken_of, AreDealt};
 
 use crate::board::{Origin, PassSeat, Slot};
 use crate::lock::Shared;
@@ -144,7 +145,9 @@ impl<T: Turned> Passes<T> {
     /// Takes the next pass. The numbers go up from 0. It is `None` exactly when all were taken.
     pub fn take(&mut self) -> Option<Pass<T>>
         ensures none { IsNone result ↔ (left_of self.old ≡ 0) }
-        ensures some { IfSome result (IsFresh (lock_of_all self.old) (taken_of self.old)) }
+        ensures of_lock { IfSome result (λ pass. lock_of pass ≡ lock_of_all self.old) }
+        ensures unseen { IfSome result (λ pass. seen pass ≡ []) }
+        ensures alone { IfSome result (λ pass. shares pass ≡ share_of (taken_of self.old) [] ∷ []) }
         ensures left { left_of self.new ≡ left_of self.old - 1 }
         ensures lock { lock_of_all self.new ≡ lock_of_all self.old }
         ensures all { all_of self.new ≡ all_of self.old }
