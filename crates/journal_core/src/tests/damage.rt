@@ -1,5 +1,5 @@
 //! Files that are refused, and where.
-use super::{bytes_of, example, file_of};
+use super::{bytes_of, file_of};
 use crate::{Journal, OpenFault};
 use disk_core::MemoryDisk;
 use std::alloc::Global;
@@ -72,30 +72,6 @@ fn each_altered_byte_of_a_record_is_damage(rt: HostRuntime) -> Result<(), Fail> 
         other[place] ^= 1;
         assert_eq!(rt; outcome_of(alloc, &other)?, damaged, "byte {place}");
     }
-    Ok(())
-}
-
-#[test]
-fn an_altered_first_body_is_damage_before_a_second_record(rt: HostRuntime) -> Result<(), Fail> {
-    let alloc = rt.alloc();
-    let mut file = bytes_of(alloc, example())?;
-    assert_eq!(rt; outcome_of(alloc, &file)?, Ok(2));
-    file[58] ^= 1;
-    assert_eq!(rt;
-        outcome_of(alloc, &file)?,
-        Err(OpenFault::Damaged { place: 33 })
-    );
-    Ok(())
-}
-
-#[test]
-fn an_open_gate_with_no_record_after_it_is_damage(rt: HostRuntime) -> Result<(), Fail> {
-    let alloc = rt.alloc();
-    let file = file_of(alloc, 224, 0, &[2, 1, 1])?;
-    assert_eq!(rt;
-        outcome_of(alloc, &file)?,
-        Err(OpenFault::Damaged { place: 33 })
-    );
     Ok(())
 }
 

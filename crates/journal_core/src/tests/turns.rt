@@ -116,57 +116,6 @@ fn a_file_of_format_1_is_migrated(rt: HostRuntime) -> Result<(), Fail> {
     Ok(())
 }
 
-// A file of format 1 with areas of this length, and so many records whose bodies are 136 zeros.
-fn first_file_of(alloc: Global, area: u64, count: u64) -> Result<Vec<u8>, Fail> {
-    let mut list = b"\x01".to_vec(alloc)?;
-    for _ in 0..count {
-        list.extend_from_slice(&bytes_of(alloc, "01 0000000000000088")?)?;
-        list.extend_from_slice(&vec![in alloc; 0; 136]?)?;
-    }
-    list.push(0)?;
-    file_of(alloc, area, 0, &list)
-}
-
-// A counter's record and those of two objects, all with the number 1.
-fn of_two_objects(alloc: Global) -> Result<Records, Fail>
-    ensures { IfOk result (λ entries. All IsNumbered entries) }
-{
-    let mut entries = records_of(alloc, 9, 165)?;
-    entries.push(Record {
-        stamp: stamp(1),
-        body: Bytes::from(vec![in alloc; 7; 165]?),
-    })?;
-    Ok(entries)
-}
-
-#[test]
-fn two_objects_of_format_1_are_migrated(rt: HostRuntime) -> Result<(), Fail> {
-    let alloc = rt.alloc();
-    let disk = MemoryDisk::new(alloc, &first_file_of(alloc, 1000, 2)?, &[])?;
-    let Ok((first, entries)) = Journal::open_first(alloc, disk) else {
-        return Err("not opened".into());
-    };
-    assert_eq!(rt; entries.len(), 2);
-    assert_eq!(rt; entries.item(1).body.get().len(), 136);
-    let Ok(journal) = first.migrate(&of_two_objects(alloc)?) else {
-        return Err("not migrated".into());
-    };
-    let Ok((journal, entries)) = Journal::open(alloc, journal.into_disk()) else {
-        return Err("not opened again".into());
-    };
-    let room = Room {
-        used: 511,
-        area: 1000,
-    };
-    assert_eq!(rt; journal.room(), room);
-    assert_eq!(rt; journal.side(), 1);
-    assert_eq!(rt; entries.len(), 3);
-    for entry in entries.as_slice() {
-        assert_eq!(rt; entry.stamp, stamp(1));
-    }
-    Ok(())
-}
-
 // Whether a migration was done that this many calls of the disk pass, and its disk.
 fn migrated_after(alloc: Global, passes: u64) -> Result<(bool, MemoryDisk), Fail> {
     let disk = MemoryDisk::new(alloc, &first_file(alloc)?, &[])?;
@@ -202,8 +151,7 @@ fn every_image_of_a_migration_is_one_of_two_lists(rt: HostRuntime) -> Result<(),
 #[test]
 fn what_does_not_fit_is_not_migrated(rt: HostRuntime) -> Result<(), Fail> {
     let alloc = rt.alloc();
-    let file = first_file_of(alloc, 147, 1)?;
-    assert_eq!(rt; file.len(), 179);
+    let file = file_of(alloc, 147, 0, b"\x01\0")?;
     let Ok((first, _)) = Journal::open_first(alloc, MemoryDisk::new(alloc, &file, &[])?) else {
         return Err("not opened".into());
     };
