@@ -10,8 +10,6 @@ mod opening;
 mod planner;
 mod saving;
 mod store;
-#[cfg(test)]
-mod tests;
 mod work;
 
 pub use fault::StoreFault;
