@@ -16,6 +16,7 @@ struct Made<'a> {
     attributes: &'a str,
     element: &'a str,
     by: u64,
+    times: (u64, u64),
     revision: u64,
 }
 
@@ -58,20 +59,20 @@ fn elements_of(alloc: Global, attributes: &str) -> Result<Elements, Fail> {
     Ok(Elements::of(items).ok_or("no elements")?)
 }
 
-fn metadata_of(alloc: Global, by: u64, revision: u64) -> Result<Metadata, Fail> {
-    let by = repeated(alloc, 'a', by)?;
+fn metadata_of(alloc: Global, made: &Made) -> Result<Metadata, Fail> {
+    let by = repeated(alloc, 'a', made.by)?;
     Ok(Metadata {
         created_by: Str::of(alloc, by.as_str())?,
-        created_on: 0,
+        created_on: made.times.0,
         modified_by: Str::of(alloc, by.as_str())?,
-        modified_on: 7,
-        revision,
+        modified_on: made.times.1,
+        revision: made.revision,
     })
 }
 
 fn value_of(alloc: Global, made: &Made) -> Result<ObjectValue, Fail> {
     let elements = elements_of(alloc, made.element)?;
-    let metadata = metadata_of(alloc, made.by, made.revision)?;
+    let metadata = metadata_of(alloc, made)?;
     Ok(ObjectValue {
         id: Id::of(alloc, "35.TEST/f")?.ok_or("no identifier")?,
         type_name: TypeName::of(alloc, "0.TYPE/DO")?.ok_or("no type")?,
@@ -91,6 +92,7 @@ fn may_have(alloc: Global, attributes: &str) -> Result<bool, Fail> {
         attributes,
         element: "{}",
         by: 1,
+        times: (0, 7),
         revision: 1,
     };
     may_be_made(alloc, &made)
@@ -127,6 +129,7 @@ fn may_be_nested(
         attributes: attributes.as_str(),
         element: element.as_str(),
         by,
+        times: (0, 7),
         revision,
     };
     may_be_made(alloc, &made)
@@ -170,17 +173,22 @@ fn an_object_has_at_most_a_thousand_different_elements(rt: HostRuntime) -> Resul
     Ok(())
 }
 
+fn object_of(alloc: Global, made: &Made) -> Result<Object, Fail> {
+    match Object::of(value_of(alloc, made)?) {
+        Some(object) => Ok(object),
+        None => Err(Fail::from("no object")),
+    }
+}
+
 fn example(alloc: Global) -> Result<Object, Fail> {
     let made = Made {
         attributes: "{\"content\":true,\"zip\":[]}",
         element: "{\"a\":1}",
         by: 1,
+        times: (0, 7),
         revision: 1,
     };
-    match Object::of(value_of(alloc, &made)?) {
-        Some(object) => Ok(object),
-        None => Err(Fail::from("no object")),
-    }
+    object_of(alloc, &made)
 }
 
 // The shown form of the example, as it is written.
@@ -210,6 +218,32 @@ fn the_shown_form_is_written_as_text_and_as_a_value(rt: HostRuntime) -> Result<(
     assert!(rt; shown(alloc, &object)?.as_slice() == want.as_bytes());
     assert!(rt; value_text(alloc, &object)?.get() == want.as_bytes());
     assert_eq!(rt; text_length(&object), want.len() as u64);
+    Ok(())
+}
+
+// The shown form of an object that was created and changed at these times.
+fn shown_at(alloc: Global, times: (u64, u64)) -> Result<Vec<u8>, Fail> {
+    let made = Made {
+        attributes: "{}",
+        element: "{}",
+        by: 1,
+        times,
+        revision: 1,
+    };
+    shown(alloc, &object_of(alloc, &made)?)
+}
+
+// No number of 64 bits is past the last time.
+#[test]
+fn the_last_time_is_kept_and_shown(rt: HostRuntime) -> Result<(), Fail> {
+    let last = u64::MAX;
+    let text = shown_at(rt.alloc(), (last.saturating_sub(1), last))?;
+    let want =
+        "{\"attributes\":{\"metadata\":{\"createdBy\":\"a\",\"createdOn\":18446744073709551614,\
+        \"modifiedBy\":\"a\",\"modifiedOn\":18446744073709551615,\"revision\":1}},\
+        \"elements\":[{\"attributes\":{},\"id\":\"file\",\"length\":5,\"type\":\"text\"}],\
+        \"id\":\"35.TEST/f\",\"type\":\"0.TYPE/DO\"}";
+    assert!(rt; text.as_slice() == want.as_bytes());
     Ok(())
 }
 

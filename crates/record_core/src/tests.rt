@@ -206,6 +206,37 @@ fn other_bytes_are_no_removal_and_no_counter(rt: HostRuntime) -> Result<(), Fail
     Ok(())
 }
 
+// A put of `35.TEST/1` that was created at this time, which has twenty digits.
+fn created_at(alloc: Global, time: &str) -> Result<Vec<u8>, Fail> {
+    let mut body = bytes_of(alloc, "01 0000000000000002 000000a7")?;
+    let before = r#"{"attributes":{"metadata":{"createdBy":"admin","createdOn":"#;
+    let after =
+        r#","modifiedBy":"admin","modifiedOn":0,"revision":1}},"id":"35.TEST/1","type":"0.TYPE/DO"}"#;
+    body.extend_from_slice(before.as_bytes())?;
+    body.extend_from_slice(time.as_bytes())?;
+    body.extend_from_slice(after.as_bytes())?;
+    body.extend_from_slice(&[0, 0, 0, 0])?;
+    Ok(body)
+}
+
+// Whether a put that was created at this time is read, and written as the same bytes.
+fn is_time(alloc: Global, time: &str) -> Result<bool, Fail> {
+    let body = created_at(alloc, time)?;
+    match change_of(alloc, &body) {
+        Ok(change) => has_body(alloc, &change, &body),
+        Err(_) => Ok(false),
+    }
+}
+
+#[test]
+fn a_time_has_64_bits(rt: HostRuntime) -> Result<(), Fail> {
+    let alloc = rt.alloc();
+    assert!(rt; is_time(alloc, "18446744073709551615")?);
+    let past = created_at(alloc, "18446744073709551616")?;
+    assert!(rt; is_refused(alloc, &past));
+    Ok(())
+}
+
 // The body with another byte at a place.
 fn damaged(alloc: Global, body: &[u8], place: usize, byte: u8) -> Result<Vec<u8>, Fail> {
     let mut other = body.to_vec(alloc)?;

@@ -121,93 +121,102 @@ fn who_may_create(alloc: Global, lists: &TypeLists) -> Result<String, AllocError
     Ok(letters)
 }
 
-// Who may read an object with this word among its readers.
-fn readers_by(alloc: Global, word: &str) -> Result<String, Fail> {
+// Whether those who may read an object with this word among its readers are these.
+fn are_readers(alloc: Global, word: &str, want: &str) -> Result<bool, Fail> {
     let acl = format!(in alloc; "{{\"readers\":[\"x\",\"{word}\"],\"writers\":[]}}")?;
     let object = object(alloc, acl.as_str())?;
     let lists = lists(alloc, "x", "x", "x")?;
-    Ok(who_may(alloc, Right::Read, &object, &lists)?)
+    let letters = who_may(alloc, Right::Read, &object, &lists)?;
+    Ok(letters.as_str() == want)
 }
 
-// Who may write an object without lists, of a type with this word in its list of writers.
-fn writers_by(alloc: Global, word: &str) -> Result<String, Fail> {
+// The same of those who may write an object without lists, of a type with this word in its list of writers.
+fn are_writers(alloc: Global, word: &str, want: &str) -> Result<bool, Fail> {
     let object = object(alloc, "")?;
     let lists = lists(alloc, "x", word, "x")?;
-    Ok(who_may(alloc, Right::Write, &object, &lists)?)
+    let letters = who_may(alloc, Right::Write, &object, &lists)?;
+    Ok(letters.as_str() == want)
 }
 
-// Who may create objects of a type with this word in its list.
-fn creators_by(alloc: Global, word: &str) -> Result<String, Fail> {
+// The same of those who may create objects of a type with this word in its list.
+fn are_creators(alloc: Global, word: &str, want: &str) -> Result<bool, Fail> {
     let lists = lists(alloc, "x", "x", word)?;
-    Ok(who_may_create(alloc, &lists)?)
+    let letters = who_may_create(alloc, &lists)?;
+    Ok(letters.as_str() == want)
+}
+
+// A word, those whom it grants an object, and those whom it grants to create.
+const WORDS: &str = "public|-abcpr|-abcpr
+authenticated|abcpr|abcpr
+creator|cr|r
+self|pr|r
+bob|br|br
+g|ar|ar
+anonymous|r|r
+Public|r|r";
+
+fn grants(alloc: Global, row: &str) -> Result<bool, Fail> {
+    let (word, rest) = row.split_once('|').ok_or("a word")?;
+    let (of_object, of_type) = rest.split_once('|').ok_or("callers")?;
+    Ok(
+        are_readers(alloc, word, of_object)?
+            && are_writers(alloc, word, of_object)?
+            && are_creators(alloc, word, of_type)?,
+    )
 }
 
 #[test]
 fn each_word_grants_to_whom_it_says(rt: HostRuntime) -> Result<(), Fail> {
-    let rows = [
-        ("public", "-abcpr", "-abcpr"),
-        ("authenticated", "abcpr", "abcpr"),
-        ("creator", "cr", "r"),
-        ("self", "pr", "r"),
-        ("bob", "br", "br"),
-        ("g", "ar", "ar"),
-        ("anonymous", "r", "r"),
-        ("Public", "r", "r"),
-    ];
-    for (word, of_object, of_type) in rows {
-        assert_eq!(rt;
-            readers_by(rt.alloc(), word)?.as_str(),
-            of_object,
-            "at {word}"
-        );
-        assert_eq!(rt;
-            writers_by(rt.alloc(), word)?.as_str(),
-            of_object,
-            "at {word}"
-        );
-        assert_eq!(rt;
-            creators_by(rt.alloc(), word)?.as_str(),
-            of_type,
-            "at {word}"
-        );
+    for row in WORDS.split('\n') {
+        assert!(rt; grants(rt.alloc(), row)?, "{row}");
     }
     Ok(())
+}
+
+// An `acl`, and those who may read and who may write an object with it.
+const LISTS: &str = r#"|-abcpr|cr
+{}|-abcpr|cr
+{"readers":["g"]}|acr|cr
+{"readers":[]}|cr|cr
+{"writers":["g"]}|-abcpr|ar"#;
+
+// Whether those who have the right at an object with this `acl` are these.
+fn may_with(alloc: Global, acl: &str, right: Right, want: &str) -> Result<bool, Fail> {
+    let usual = lists(alloc, "public", "creator", "authenticated")?;
+    let object = object(alloc, acl)?;
+    let letters = who_may(alloc, right, &object, &usual)?;
+    Ok(letters.as_str() == want)
+}
+
+fn hides(alloc: Global, row: &str) -> Result<bool, Fail> {
+    let (acl, rest) = row.split_once('|').ok_or("an acl")?;
+    let (readers, writers) = rest.split_once('|').ok_or("callers")?;
+    Ok(may_with(alloc, acl, Right::Read, readers)? && may_with(alloc, acl, Right::Write, writers)?)
 }
 
 #[test]
 fn the_lists_of_an_object_hide_those_of_its_type(rt: HostRuntime) -> Result<(), Fail> {
-    let alloc = rt.alloc();
-    let usual = lists(alloc, "public", "creator", "authenticated")?;
-    let rows = [
-        ("", "-abcpr", "cr"),
-        ("{}", "-abcpr", "cr"),
-        ("{\"readers\":[\"g\"]}", "acr", "cr"),
-        ("{\"readers\":[]}", "cr", "cr"),
-        ("{\"writers\":[\"g\"]}", "-abcpr", "ar"),
-    ];
-    for (acl, readers, writers) in rows {
-        let object = object(alloc, acl)?;
-        assert_eq!(rt;
-            who_may(alloc, Right::Read, &object, &usual)?.as_str(),
-            readers,
-            "at {acl}"
-        );
-        assert_eq!(rt;
-            who_may(alloc, Right::Write, &object, &usual)?.as_str(),
-            writers,
-            "at {acl}"
-        );
+    for row in LISTS.split('\n') {
+        assert!(rt; hides(rt.alloc(), row)?, "{row}");
     }
     Ok(())
 }
 
-#[test]
-fn a_group_that_is_removed_grants_nothing(rt: HostRuntime) -> Result<(), Fail> {
-    let alloc = rt.alloc();
+// Whether alice may read an object whose readers are the group `g`.
+fn may_alice(alloc: Global, removed: bool) -> Result<bool, Fail> {
     let usual = lists(alloc, "public", "creator", "authenticated")?;
     let object = object(alloc, "{\"readers\":[\"g\"]}")?;
     let alice = caller(alloc, "alice")?;
-    assert!(rt; may(&alice, Right::Read, &object, &usual, &OneGroup));
-    assert!(rt; !may(&alice, Right::Read, &object, &usual, &NoGroup));
+    if removed {
+        Ok(may(&alice, Right::Read, &object, &usual, &NoGroup))
+    } else {
+        Ok(may(&alice, Right::Read, &object, &usual, &OneGroup))
+    }
+}
+
+#[test]
+fn a_group_that_is_removed_grants_nothing(rt: HostRuntime) -> Result<(), Fail> {
+    assert!(rt; may_alice(rt.alloc(), false)?);
+    assert!(rt; !may_alice(rt.alloc(), true)?);
     Ok(())
 }
