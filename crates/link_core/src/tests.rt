@@ -153,14 +153,19 @@ fn a_host_hands_out_what_it_was_given(rt: HostRuntime) -> Result<(), Fail> {
     Ok(())
 }
 
-#[test]
-fn a_held_read_waits_for_the_other_link(rt: HostRuntime) -> Result<(), Fail> {
-    let alloc = rt.alloc();
-    let (mut held, mut other) = GateLink::pair(
+// Two links of which the first, with the byte h, is held until the second was written to.
+fn gated(alloc: Global) -> Result<(GateLink, GateLink), AllocError> {
+    GateLink::pair(
         alloc,
         MemoryLink::of(alloc, b"h")?,
         MemoryLink::of(alloc, b"o")?,
-    )?;
+    )
+}
+
+#[test]
+fn a_held_read_waits_for_the_other_link(rt: HostRuntime) -> Result<(), Fail> {
+    let alloc = rt.alloc();
+    let (mut held, mut other) = gated(alloc)?;
     assert_eq!(rt; first_read(&mut held), Err(Failed));
     assert_eq!(rt; (held.turns(), held.link().faults()), (10_000_000, 1));
     assert_eq!(rt; first_read(&mut other), Ok(b'o'));
@@ -179,11 +184,7 @@ fn a_held_read_waits_for_the_other_link(rt: HostRuntime) -> Result<(), Fail> {
 #[test]
 fn a_read_is_held_until_another_thread_wrote(rt: HostRuntime) -> Result<(), Fail> {
     let alloc = rt.alloc();
-    let (mut held, mut other) = GateLink::pair(
-        alloc,
-        MemoryLink::of(alloc, b"h")?,
-        MemoryLink::of(alloc, b"o")?,
-    )?;
+    let (mut held, mut other) = gated(alloc)?;
     // Where no thread can be had, the second runs first.
     let (read, wrote) = join_mut(
         &rt,
@@ -195,5 +196,64 @@ fn a_read_is_held_until_another_thread_wrote(rt: HostRuntime) -> Result<(), Fail
         (held.link().faults(), other.link().written()),
         (0, b"x".as_slice())
     );
+    Ok(())
+}
+
+// Whether a read is a fault after all its turns.
+fn waits_in_vain(held: &mut GateLink) -> bool {
+    first_read(held) == Err(Failed) && held.turns() == 10_000_000 && held.link().faults() == 1
+}
+
+// Whether the held link gives its byte once the other was written to.
+fn opens(held: &mut GateLink, other: &mut GateLink) -> bool {
+    other.write(b"x") == Ok(1) && first_read(held) == Ok(b'h')
+}
+
+// Whether the first of the two links that are accepted next is held until the second was written to.
+fn accepts_gated(listener: &mut MemoryListener<GateLink>) -> bool {
+    match (listener.accept(), listener.accept()) {
+        (Ok(Some(mut held)), Ok(Some(mut other))) => {
+            waits_in_vain(&mut held) && opens(&mut held, &mut other)
+        }
+        _ => false,
+    }
+}
+
+// Whether the first of the two links that are dialled next gives its byte once the second was written to.
+fn dials_gated(host: &mut MemoryHost<GateLink>) -> bool {
+    match (host.dial("a", 1), host.dial("a", 1)) {
+        (Ok(mut held), Ok(mut other)) => opens(&mut held, &mut other),
+        _ => false,
+    }
+}
+
+// Whether the console waits for no other link.
+fn is_plain(host: &mut MemoryHost<GateLink>) -> bool {
+    match host.console() {
+        Ok(mut link) => first_read(&mut link) == Ok(b'p') && link.turns() == 0,
+        Err(_) => false,
+    }
+}
+
+#[test]
+fn a_listener_accepts_gated_links(rt: HostRuntime) -> Result<(), Fail> {
+    let alloc = rt.alloc();
+    let (held, other) = gated(alloc)?;
+    let mut listener = MemoryListener::new(alloc, Vec::new(alloc));
+    listener.add(held)?;
+    listener.add(other)?;
+    assert!(rt; accepts_gated(&mut listener));
+    Ok(())
+}
+
+#[test]
+fn a_host_hands_out_gated_links_and_plain_ones(rt: HostRuntime) -> Result<(), Fail> {
+    let alloc = rt.alloc();
+    let (held, other) = gated(alloc)?;
+    let mut host = MemoryHost::new(alloc);
+    host.add_peer(held)?;
+    host.add_peer(other)?;
+    host.add_console(GateLink::plain(MemoryLink::of(alloc, b"p")?))?;
+    assert!(rt; dials_gated(&mut host) && is_plain(&mut host));
     Ok(())
 }

@@ -1,5 +1,6 @@
 //! A file as a disk.
 ghost use Rattle.std.specs.Prelude.{◌≡◌, true, None, ℕ, List, IfOk, IsErr, OnErr};
+ghost use Rattle.std.specs.Option.{option_copied};
 ghost use Rattle.repo_cli.specs.Real.{count_of, HasNoFault, real_disk};
 
 use crate::faults::{Faults, read_again};
@@ -35,19 +36,28 @@ impl Read for At<'_> {
 }
 
 impl FileDisk {
+    /// A file that is open, before the first call. What it holds is durable.
+    pub fn new(file: File) -> FileDisk
+        ensures { HasNoFault result.faults }
+    {
+        FileDisk {
+            file,
+            unsynced: false,
+            faults: Faults::new(),
+        }
+    }
+
     /// Opens the file at the path, or makes an empty one there. What it holds is durable then.
     pub fn open<R: Files<File = File>>(rt: &R, path: &str) -> IoResult<FileDisk>
         ensures { IfOk result (λ disk. HasNoFault disk.faults) }
     {
-        Ok(FileDisk {
-            file: open_or_make(rt, path)?,
-            unsynced: false,
-            faults: Faults::new(),
-        })
+        Ok(FileDisk::new(open_or_make(rt, path)?))
     }
 
     /// What the system said of the last fault.
-    pub fn last_fault(&self) -> Option<&Error> {
+    pub fn last_fault(&self) -> Option<&Error>
+        ensures { option_copied result ≡ self.now.faults.last }
+    {
         self.faults.last()
     }
 }

@@ -1,5 +1,6 @@
 //! The faults of an object of the outside, and calls that a signal interrupted.
-ghost use Rattle.std.specs.Prelude.{◌≡◌, ◌↔◌, ◌≤◌, ◌<◌, ◌^◌};
+ghost use Rattle.std.specs.Prelude.{◌≡◌, ◌≢◌, ◌↔◌, ◌≤◌, ◌<◌, ◌^◌, Some, IfErr};
+ghost use Rattle.std.specs.Option.{option_copied};
 ghost use Rattle.std.specs.Io.{ReadsAtMost, WritesAtMost};
 ghost use Rattle.std.specs.IoError.{error_kind};
 ghost use Rattle.base_core.specs.Causes.{Counts};
@@ -8,6 +9,9 @@ ghost use Rattle.link_core.specs.Link.{Takes as TakesSome};
 use base_core::{Failed, counted};
 use link_core::HostFault;
 use std::io::{Error, ErrorKind, Read, Result as IoResult, Write};
+
+// What is said of a call that was made as often as can be counted.
+const MOST_SIGNALS: &str = "signals interrupted 2^64 - 1 calls";
 
 /// How often the calls of an object have failed, and what the system said of the last fault.
 #[derive(Drop)]
@@ -33,6 +37,7 @@ impl Faults {
     pub fn count(&mut self, error: Error) -> Failed
         ensures counted { Counts (count_of self.old) (count_of self.new) }
         ensures later { count_of self.old ≤ count_of self.new }
+        ensures words { self.new.last ≡ Some error }
     {
         self.last = Some(error);
         self.count_again()
@@ -42,6 +47,7 @@ impl Faults {
     pub fn count_again(&mut self) -> Failed
         ensures counted { Counts (count_of self.old) (count_of self.new) }
         ensures later { count_of self.old ≤ count_of self.new }
+        ensures words { self.new.last ≡ self.old.last }
     {
         self.count = counted(self.count);
         Failed
@@ -52,6 +58,7 @@ impl Faults {
         ensures memory { result ≡ HostFault.Memory ↔ error_kind error ≡ ErrorKind.OutOfMemory }
         ensures counted { result ≡ HostFault.Failed → Counts (count_of self.old) (count_of self.new) }
         ensures later { count_of self.old ≤ count_of self.new }
+        ensures words { result ≡ HostFault.Failed → self.new.last ≡ Some error }
     {
         if error.kind() == ErrorKind::OutOfMemory {
             return HostFault::Memory;
@@ -69,34 +76,46 @@ impl Faults {
     }
 
     /// What the system said of the last fault.
-    pub fn last(&self) -> Option<&Error> {
+    pub fn last(&self) -> Option<&Error>
+        ensures { option_copied result ≡ self.now.last }
+    {
         self.last.as_ref()
     }
 }
 
 /// Reads once, and again where a signal interrupted.
 pub fn read_again<R: Read>(source: &mut R, into: &mut [u8]) -> IoResult<usize>
-    ensures { ReadsAtMost result into.new }
+    ensures bound { ReadsAtMost result into.new }
+    ensures again { IfErr result (λ error. error_kind error ≢ ErrorKind.Interrupted) }
 {
     for _ in 0..u64::MAX {
         match source.read(into) {
-            Err(error) if error.kind() == ErrorKind::Interrupted => {}
-            other => return other,
+            Ok(count) => return Ok(count),
+            Err(error) => {
+                if error.kind() != ErrorKind::Interrupted {
+                    return Err(error);
+                }
+            }
         }
     }
-    Err(Error::from(ErrorKind::Interrupted))
+    Err(Error::other(MOST_SIGNALS))
 }
 
 /// Writes once, and again where a signal interrupted. Taking nothing of a piece with bytes is an error.
 pub fn write_again<W: Write>(sink: &mut W, piece: &[u8]) -> IoResult<usize>
-    ensures { TakesSome piece.now result }
+    ensures some { TakesSome piece.now result }
+    ensures again { IfErr result (λ error. error_kind error ≢ ErrorKind.Interrupted) }
 {
     for _ in 0..u64::MAX {
         match sink.write(piece) {
             Ok(0) if !piece.is_empty() => return Err(Error::from(ErrorKind::WriteZero)),
-            Err(error) if error.kind() == ErrorKind::Interrupted => {}
-            other => return other,
+            Ok(count) => return Ok(count),
+            Err(error) => {
+                if error.kind() != ErrorKind::Interrupted {
+                    return Err(error);
+                }
+            }
         }
     }
-    Err(Error::from(ErrorKind::Interrupted))
+    Err(Error::other(MOST_SIGNALS))
 }

@@ -1,5 +1,6 @@
 //! The process as a host.
 ghost use Rattle.std.specs.Prelude.{◌≡◌, ◌≤◌, length, None, IfOk};
+ghost use Rattle.std.specs.Option.{option_copied};
 ghost use Rattle.repo_cli.specs.Real.{count_of};
 
 use crate::clock::RealClock;
@@ -97,7 +98,9 @@ impl<'a, R> RealHost<'a, R> {
     }
 
     /// What the system said of the last fault.
-    pub fn last_fault(&self) -> Option<&Error> {
+    pub fn last_fault(&self) -> Option<&Error>
+        ensures { option_copied result ≡ self.now.faults.last }
+    {
         self.faults.last()
     }
 }

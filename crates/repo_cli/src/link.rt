@@ -1,5 +1,6 @@
 //! The console and sockets as links.
 ghost use Rattle.std.specs.Prelude.{◌≡◌, ◌≤◌, ◌^◌, false, true, None, IfOk};
+ghost use Rattle.std.specs.Option.{option_copied};
 ghost use Rattle.repo_cli.specs.Real.{count_of, HasNoFault};
 
 use crate::faults::{Faults, read_again, write_again};
@@ -101,7 +102,9 @@ impl RealLink {
     }
 
     /// What the system said of the last fault.
-    pub fn last_fault(&self) -> Option<&Error> {
+    pub fn last_fault(&self) -> Option<&Error>
+        ensures { option_copied result ≡ self.now.faults.last }
+    {
         self.faults.last()
     }
 }

@@ -1,5 +1,6 @@
 //! A listening socket.
-ghost use Rattle.std.specs.Prelude.{None};
+ghost use Rattle.std.specs.Prelude.{◌≡◌, None};
+ghost use Rattle.std.specs.Option.{option_copied};
 ghost use Rattle.repo_cli.specs.Real.{count_of, HasNoFault};
 
 use crate::faults::Faults;
@@ -55,7 +56,9 @@ impl TcpListen {
     }
 
     /// What the system said of the last fault.
-    pub fn last_fault(&self) -> Option<&Error> {
+    pub fn last_fault(&self) -> Option<&Error>
+        ensures { option_copied result ≡ self.now.faults.last }
+    {
         self.faults.last()
     }
 }

@@ -25,7 +25,7 @@ use crate::offered::{count_keys, digest_element, pick_value, trim_content};
 use dobj_model::{Id, Object};
 use doip_json::{Json, JsonMap, Str};
 use ext_ops::{ExtCode, ExtFault, Extension, Extensions, HookCode, WriteHook};
-use repo_top::{Note, Words, run_plain};
+use repo_top::{Note, Ran, Words, run_plain};
 use std::alloc::{AllocError, Global};
 use std::io::ErrorKind;
 use std::process::ExitCode;
@@ -127,19 +127,24 @@ fn run_extended(
     Ok(run(rt, alloc, invocation, extensions))
 }
 
+// What the system said of the fault behind a note: the words of the object that had it.
+fn cause_of<'a>(
+    host: &'a RealHost<'_, HostRuntime>,
+    ran: &'a Ran<RealHost<'_, HostRuntime>>,
+) -> Option<&'a io::Error> {
+    match &ran.note {
+        Note::Host => host.last_fault(),
+        Note::End(_) => ran.link.as_ref()?.last_fault(),
+        _ => None,
+    }
+}
+
 // Runs the command over the real host, and prints what there is to note: the status.
 fn run(rt: &HostRuntime, alloc: Global, invocation: &Invocation, extensions: Extensions) -> u8 {
     let mut host = RealHost::new(rt, alloc, rt.stdin(), rt.stdout());
     let ran = run_plain(alloc, &invocation.arguments, &mut host, extensions);
     let program = file_name(invocation.path.get());
-    match &ran.note {
-        Note::Host => print_note(rt, program, &ran.note, host.last_fault()),
-        Note::End(_) => match &ran.link {
-            Some(link) => print_note(rt, program, &ran.note, link.last_fault()),
-            None => print_note(rt, program, &ran.note, None),
-        },
-        _ => print_note(rt, program, &ran.note, None),
-    }
+    print_note(rt, program, &ran.note, cause_of(&host, &ran));
     ran.status
 }
 

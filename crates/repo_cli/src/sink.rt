@@ -1,5 +1,6 @@
 //! Standard output as a sink.
-ghost use Rattle.std.specs.Prelude.{None};
+ghost use Rattle.std.specs.Prelude.{◌≡◌, None};
+ghost use Rattle.std.specs.Option.{option_copied};
 ghost use Rattle.repo_cli.specs.Real.{count_of, HasNoFault};
 
 use crate::faults::{Faults, write_again};
@@ -26,7 +27,9 @@ impl<W: Write + Drop> StdSink<W> {
     }
 
     /// What the system said of the last fault.
-    pub fn last_fault(&self) -> Option<&Error> {
+    pub fn last_fault(&self) -> Option<&Error>
+        ensures { option_copied result ≡ self.now.faults.last }
+    {
         self.faults.last()
     }
 }

@@ -1,14 +1,18 @@
 //! The real objects against real files, a pipe, and sockets on loopback.
 use crate::clock::RealClock;
+use crate::disk::FileDisk;
+use crate::faults::{read_again, write_again};
 use crate::host::RealHost;
 use crate::link::{RealLink, SILENCE};
-use crate::listener::is_of_one;
+use crate::listener::{TcpListen, is_of_one};
+use crate::note::line_of;
 use crate::sink::StdSink;
 use disk_core::Disk;
 use link_core::{Clock, Host, Link, Listener, Sink};
+use repo_top::Note;
 use std::alloc::Global;
-use std::fs;
-use std::io::{Error, ErrorKind, pipe};
+use std::fs::{self, OpenOptions};
+use std::io::{Error, ErrorKind, Read, Result as IoResult, Write, pipe};
 use std::net::{TcpListener, TcpStream};
 use std::os::unix::fs::MetadataExt;
 use std::test::Fail;
@@ -20,6 +24,28 @@ fn words_of(alloc: Global, fault: Option<&Error>) -> Result<String, Fail> {
         Some(error) => Ok(format!(in alloc; "{error}")?),
         None => Err(Fail::from("no fault")),
     }
+}
+
+// The line of a note, none for none.
+fn line_text(alloc: Global, note: &Note, cause: Option<&Error>) -> Result<String, Fail> {
+    match line_of("zenkawi", note, cause) {
+        Some(line) => Ok(format!(in alloc; "{line}")?),
+        None => Ok(String::new(alloc)),
+    }
+}
+
+#[test]
+fn a_line_ends_in_the_words_of_the_system(rt: HostRuntime) -> Result<(), Fail> {
+    let cause = Error::from_raw_os_error(98);
+    let text = line_text(rt.alloc(), &Note::Host, Some(&cause))?;
+    assert_eq!(rt;
+        text.as_str(),
+        "zenkawi: the accounts file, or standard input and output, could not be opened: Address already in use (os error 98)"
+    );
+    let text = line_text(rt.alloc(), &Note::Memory, None)?;
+    assert_eq!(rt; text.as_str(), "zenkawi: out of memory");
+    assert!(rt; line_of("zenkawi", &Note::Nothing, None).is_none());
+    Ok(())
 }
 
 #[test]
@@ -77,14 +103,47 @@ fn only_a_regular_file_is_a_disk(rt: HostRuntime) -> Result<(), Fail> {
 }
 
 #[test]
+fn a_full_disk_has_the_words_of_the_system(rt: HostRuntime) -> Result<(), Fail> {
+    let mut options = OpenOptions::new();
+    options.read(true).write(true);
+    // A device that is always full, and that can't be synced, in the place of a file.
+    let mut disk = FileDisk::new(options.open(&rt, "/dev/full")?);
+    assert!(rt; disk.write_at(0, b"abc").is_err());
+    let words = words_of(rt.alloc(), disk.last_fault())?;
+    assert_eq!(rt; words.as_str(), "No space left on device (os error 28)");
+    assert!(rt; disk.sync().is_err() && disk.sync().is_err());
+    let words = words_of(rt.alloc(), disk.last_fault())?;
+    assert_eq!(rt;
+        (words.as_str(), disk.fault_count()),
+        ("Invalid argument (os error 22)", 3)
+    );
+    Ok(())
+}
+
+#[test]
+fn a_listener_has_the_words_of_the_system(rt: HostRuntime) -> Result<(), Fail> {
+    let socket = TcpListener::bind(&rt, ("127.0.0.1", 0))?;
+    // Another handle of the socket has its options, so nothing need come to an end for a fault.
+    socket.try_clone()?.set_nonblocking(true)?;
+    let mut listener = TcpListen::new(socket);
+    assert!(rt; listener.accept().is_err());
+    let words = words_of(rt.alloc(), listener.last_fault())?;
+    assert_eq!(rt;
+        words.as_str(),
+        "Resource temporarily unavailable (os error 11)"
+    );
+    Ok(())
+}
+
+#[test]
 fn a_pipe_that_is_closed_early_is_a_fault_of_its_sink(rt: HostRuntime) -> Result<(), Fail> {
     let (reader, writer) = pipe(&rt)?;
     let mut sink = StdSink::new(writer);
     assert_eq!(rt; sink.write(b"abc"), Ok(3));
     drop(reader);
     assert!(rt; sink.write(b"abc").is_err());
-    let kind = sink.last_fault().map(|error| error.kind());
-    assert!(rt; kind == Some(ErrorKind::BrokenPipe));
+    let words = words_of(rt.alloc(), sink.last_fault())?;
+    assert_eq!(rt; words.as_str(), "Broken pipe (os error 32)");
     Ok(())
 }
 
@@ -99,6 +158,31 @@ fn a_silent_socket_is_a_fault_in_words_of_its_own(rt: HostRuntime) -> Result<(),
     assert_eq!(rt; silence, Some(SILENCE));
     options.set_read_timeout(Some(Duration::from_millis(50)))?;
     assert!(rt; link.read(&mut [0; 8]).is_err());
+    let words = words_of(rt.alloc(), link.last_fault())?;
+    assert_eq!(rt; words.as_str(), "no byte for five minutes");
+    Ok(())
+}
+
+// Whether one of a thousand writes is a fault.
+fn fills(link: &mut RealLink) -> bool {
+    for _ in 0..1_000 {
+        if link.write(&[7; 65_536]).is_err() {
+            return true;
+        }
+    }
+    false
+}
+
+#[test]
+fn a_socket_whose_peer_reads_nothing_is_a_fault_too(rt: HostRuntime) -> Result<(), Fail> {
+    let listener = TcpListener::bind(&rt, ("127.0.0.1", 0))?;
+    let stream = TcpStream::connect(&rt, listener.local_addr()?)?;
+    let options = stream.try_clone()?;
+    let mut link = RealLink::socket(stream)?;
+    let silence = options.write_timeout()?.map(|silence| silence.as_secs());
+    assert_eq!(rt; (silence, options.nodelay()?), (Some(SILENCE), true));
+    options.set_write_timeout(Some(Duration::from_millis(50)))?;
+    assert!(rt; fills(&mut link));
     let words = words_of(rt.alloc(), link.last_fault())?;
     assert_eq!(rt; words.as_str(), "no byte for five minutes");
     Ok(())
@@ -123,6 +207,50 @@ fn a_reply_arrives_although_the_request_was_not_read_to_its_end(
         (near.read(&mut buffer), near.read(&mut buffer)),
         (Ok(5), Ok(0))
     );
+    Ok(())
+}
+
+// A stream whose first call a signal interrupts.
+#[derive(Drop)]
+struct Interrupted {
+    calls: u64,
+}
+
+impl Interrupted {
+    fn call(&mut self) -> IoResult<()> {
+        self.calls = self.calls.saturating_add(1);
+        if self.calls == 1 {
+            return Err(Error::from(ErrorKind::Interrupted));
+        }
+        Ok(())
+    }
+}
+
+impl Read for Interrupted {
+    fn read(&mut self, _into: &mut [u8]) -> IoResult<usize> {
+        self.call()?;
+        Ok(0)
+    }
+}
+
+impl Write for Interrupted {
+    fn write(&mut self, piece: &[u8]) -> IoResult<usize> {
+        self.call()?;
+        Ok(piece.len())
+    }
+
+    fn flush(&mut self) -> IoResult<()> {
+        Ok(())
+    }
+}
+
+#[test]
+fn a_call_that_a_signal_interrupted_is_made_again(rt: HostRuntime) -> Result<(), Fail> {
+    let mut source = Interrupted { calls: 0 };
+    assert!(rt; matches!(read_again(&mut source, &mut [0; 8]), Ok(0)));
+    let mut sink = Interrupted { calls: 0 };
+    assert!(rt; matches!(write_again(&mut sink, b"abc"), Ok(3)));
+    assert_eq!(rt; (source.calls, sink.calls), (2, 2));
     Ok(())
 }
 
@@ -172,6 +300,8 @@ fn two_sockets_on_loopback_are_two_links(rt: HostRuntime) -> Result<(), Fail> {
         assert_eq!(rt; far.read(&mut buffer), Ok(0));
         assert!(rt; near.read(&mut buffer).is_err() && near.last_fault().is_some());
         assert!(rt; host.listen(address, port).is_err());
+        let words = words_of(rt.alloc(), host.last_fault())?;
+        assert_eq!(rt; words.as_str(), "Address already in use (os error 98)");
     }
     Ok(())
 }
