@@ -1,5 +1,5 @@
 -- The commands as clap's own definitions see them. What clap accepts, and which values it finds, is said over these.
-use Rattle.std.specs.Prelude.{List, [], ◌∷◌, Some, codes, true}
+use Rattle.std.specs.Prelude.{[], ◌∷◌, Some, codes, true}
 use Rattle.clap.specs.Words.{App, Rule, Text, new_app, new_rule, with_rule}
 use Rattle.clap.specs.Simple.{on_top}
 

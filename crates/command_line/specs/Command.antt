@@ -2,6 +2,7 @@
 use Rattle.std.specs.Prelude.{◌≡◌, ◌≤◌, ℕ, List, [], Option, Some, codes, decimal, length, nat_eq, option_copied, slice_get}
 use Rattle.std.specs.List.{before_first}
 use Rattle.clap.specs.Words.{Row, first_of, matches_of, fault_of}
+use Rattle.dobj_model.specs.Name.{IsName}
 use Rattle.command_line.specs.Apps.{answer_app, init_app, check_app}
 use Rattle.command_line.specs.declared.answer.AnswerArguments.{AnswerArguments}
 use Rattle.command_line.specs.declared.init.InitArguments.{InitArguments}
@@ -33,9 +34,6 @@ pub data Command : Type 0 where
 -- the prefix of a service: what comes before the first '/', or all of it
 abbrev pub prefix_of : List ℕ → List ℕ
 prefix_of service = before_first (λ b. nat_eq b 47) service
-
-abbrev pub IsName : List ℕ → Type 0
-IsName text = (1 ≤ length text) × (length text ≤ 255)
 
 -- a service is named, and its prefix has at most 200 bytes
 abbrev pub IsService : List ℕ → Type 0

@@ -1,4 +1,4 @@
-use Rattle.std.proofs.Common.{◌≡◌, ◌∙◌, ap, sym, subst, codes, List, option_copied}
+use Rattle.std.proofs.Common.{◌∙◌, ap, sym, subst, codes, List, option_copied}
 use Rattle.clap.specs.Words.{App, Text, first_of, fault_of, matches_of}
 use Rattle.command_line.specs.Command.{IsInvalid}
 use Rattle.command_line.proofs.Shapes.{err_if}

@@ -1,4 +1,3 @@
-use Rattle.std.proofs.Common.{◌≡◌, codes}
 use Rattle.std.proofs.lemmas.Result.{IfOk-weaker}
 use Rattle.command_line.proofs.Shapes.{adds}
 use Rattle.command_line.proofs.init.init_command.Goals as goal
