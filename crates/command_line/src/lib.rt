@@ -22,6 +22,8 @@ mod init;
 mod law;
 mod number;
 mod service;
+#[cfg(test)]
+mod tests;
 mod values;
 
 pub use answer::AnswerArguments;
