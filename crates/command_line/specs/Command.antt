@@ -112,7 +112,7 @@ command_in (arguments.Answer a) = Answer (answer_in a)
 command_in (arguments.Init a) = Init (init_in a)
 command_in (arguments.Check a) = Check a.file.now
 
--- the fault is no want of memory
+-- the fault is that of an invalid command line, and not out of memory
 abbrev pub IsInvalid : ArgumentsFault → Type 0
 IsInvalid (Invalid text) = Unit {0}
 IsInvalid Memory = ⊥
