@@ -1,0 +1,8 @@
+use Rattle.std.proofs.Common.{◌∙◌, List, ap}
+use Rattle.clap.proofs.WalkLemmas.{first_value-rows}
+use Rattle.clap.specs.Words.{first_of, found_of, Row}
+use Rattle.command_line.proofs.values.Values.text.Goals as goal
+
+pub returns : goal.returns
+returns c = c.get_str.ensures ∙ first_value-rows (found_of c.self.inside.matches) c.args.id.now
+    ∙ ap (λ (rows : List Row). first_of c.args.id.now rows) c.self.view_is
