@@ -1,74 +1,43 @@
--- The schema of a key among properties that ascend.
-use Rattle.std.proofs.Common.{◌≡◌, ℕ, zero, suc, ◌+◌, ◌<◌, ◌≤◌, List, [], ◌∷◌, length, get_or, false, Some, None, nat_eq, inl, inr, refl, sym, ap, ◌∙◌, arith}
-use Rattle.std.specs.Cmp.Lexicographic.{pointwise, nat_list_cmp_total}
-use Rattle.std.specs.List.{AllByRecursion, slice_get}
-use Rattle.std.specs.List.Sorted.{IsStrictlySortedBy}
-use Rattle.std.specs.Map.{keys_of}
-use Rattle.std.specs.declared.cmp.Ordering.TheVariants.{Less, Greater}
-use Rattle.std.proofs.lemmas.Bool.{cases_lt}
-use Rattle.doip_json.specs.Sound.{IsAscending}
-use Rattle.doip_json.proofs.Ascending.{compared, above, below}
-use Rattle.doip_json.proofs.Found.{same_key, lower_differs, greater_differs}
-use Rattle.schema_core.specs.Rules.{Rules, schema_at, properties_from}
+-- The schema of a key, at the place of the key.
+use Rattle.std.proofs.Common.{◌≡◌, ℕ, suc, ◌+◌, ◌<◌, ◌≤◌, List, [], ◌∷◌, length, get_or, Bor, Bool, true, false, cond, String, string_bytes, Option, None, Some, option_map, option_and_then, IfSome, MatchOption, nat_eq, refl, sym, ap, ◌∙◌, arith}
+use Rattle.std.specs.Cmp.Lexicographic.{pointwise}
+use Rattle.std.specs.List.{slice_get, position, position_from}
+use Rattle.std.specs.declared.alloc.Global.{Global}
+use Rattle.std.proofs.lemmas.Option.{slice_get_past, slice_get_read}
+use Rattle.std.proofs.lemmas.Iterator.Adapters.{position_from-zero}
+use Rattle.schema_core.specs.Rules.{Rules, schema_at}
+use Rattle.schema_core.specs.Kept.{keyed}
 
-key_among : (P : List ℕ → Type 0) (ks : List (List ℕ)) (i : ℕ) → AllByRecursion P ks → i < length ks → P (get_or ks i [])
-key_among P [] i all within = absurd (omega arith)
-key_among P (k ∷ ks) zero all within = all.0
-key_among P (k ∷ ks) (suc i) all within = key_among P ks i all.1 (omega arith)
+-- the test for a text among keys
+abbrev pub spells : List ℕ → String Global → Bool
+spells t key = pointwise nat_eq t (string_bytes key)
 
-earlier_below : (ks : List (List ℕ)) (i j : ℕ) → IsAscending ks → i < j → j < length ks → compared (get_or ks i []) (get_or ks j []) ≡ Less
-unfolding IsStrictlySortedBy
-earlier_below [] i j sorted before within = absurd (omega arith)
-earlier_below (k ∷ ks) i zero sorted before within = absurd (omega arith)
-earlier_below (k ∷ ks) zero (suc j) sorted before within = key_among (λ y. compared k y ≡ Less) ks j sorted.0 (omega arith)
-earlier_below (k ∷ ks) (suc i) (suc j) sorted before within = earlier_below ks i j sorted.1 (omega arith) (omega arith)
+-- what is read at the place of a key, where the keys and schemas are those from a place on
+from_place : (t : List ℕ) (keys : List (String Global)) (rs : List Rules) (n : ℕ) (read : ℕ → Option Rules)
+    → length keys ≡ length rs → ((i j : ℕ) → j ≡ n + i → read j ≡ slice_get rs i)
+    → option_and_then read (position_from (spells t) n keys) ≡ schema_at t (keyed keys rs)
+from_place t [] [] n read even at = refl
+from_place t [] (r ∷ rs) n read even at = refl
+from_place t (key ∷ keys) [] n read even at = absurd (omega arith)
+from_place t (key ∷ keys) (r ∷ rs) n read even at =
+    by (spells t key) (from_place t keys rs (n + 1) read (omega arith) (λ i j is. at (suc i) j (omega arith)))
+  where
+    by : (b : Bool) → option_and_then read (position_from (spells t) (n + 1) keys) ≡ schema_at t (keyed keys rs)
+        → option_and_then read (cond b (Some n) (position_from (spells t) (n + 1) keys))
+        ≡ cond b (Some r) (schema_at t (keyed keys rs))
+    by true later = at 0 n (omega arith)
+    by false later = later
 
--- if the key at place m is lower than k, so is each one before it
-pub keys_before : (ks : List (List ℕ)) (k : List ℕ) (m : ℕ) → IsAscending ks → m < length ks → compared (get_or ks m []) k ≡ Less
-    → (j : ℕ) → j < m + 1 → compared (get_or ks j []) k ≡ Less
-keys_before ks k m sorted within less j before =
-    elim (cases_lt j m) [
-      | inl earlier ↦ nat_list_cmp_total.trans (get_or ks j []) (get_or ks m []) k (earlier_below ks j m sorted earlier within) less
-      | inr later ↦ let same : j ≡ m = omega arith in rw same less
-    ]
+-- the schema at the place of a key is that of the key
+pub at_place : (t : List ℕ) (keys : List (String Global)) (rs : List Rules) → length keys ≡ length rs
+    → option_and_then (slice_get rs) (position (spells t) keys) ≡ schema_at t (keyed keys rs)
+at_place t keys rs even =
+    ap (option_and_then (slice_get rs)) (position_from-zero (spells t) keys)
+    ∙ from_place t keys rs 0 (slice_get rs) even (λ i j is. let here : j ≡ i = omega arith in ap (slice_get rs) here)
 
--- if the key at place m is greater than k, so is each one from it on
-pub keys_after : (ks : List (List ℕ)) (k : List ℕ) (m : ℕ) → IsAscending ks → compared (get_or ks m []) k ≡ Greater
-    → (j : ℕ) → m ≤ j → j < length ks → compared (get_or ks j []) k ≡ Greater
-keys_after ks k m sorted greater j after within =
-    elim (cases_lt m j) [
-      | inl later ↦ above (get_or ks j []) k (nat_list_cmp_total.trans k (get_or ks m []) (get_or ks j []) (below (get_or ks m []) k greater) (earlier_below ks m j sorted later within))
-      | inr earlier ↦ let same : j ≡ m = omega arith in rw same greater
-    ]
-
-pub length-keys : (ps : List (List ℕ × Rules)) → length (keys_of ps) ≡ length ps
-length-keys [] = refl
-length-keys (p ∷ ps) = ap suc (length-keys ps)
-
--- the key of the property at a place
-pub key_read : (ps : List (List ℕ × Rules)) (i : ℕ) (p : List ℕ × Rules) → slice_get ps i ≡ Some p → get_or (keys_of ps) i [] ≡ p.0
-key_read [] i p is = absurd (cc)
-key_read (q ∷ ps) zero p is = let same : q ≡ p = cc in ap (λ x. x.0) same
-key_read (q ∷ ps) (suc i) p is = key_read ps i p is
-
--- the property at a place is the one of its key
-pub found_at : (ps : List (List ℕ × Rules)) (i : ℕ) (p : List ℕ × Rules) → IsAscending (keys_of ps) → slice_get ps i ≡ Some p → i < length ps → schema_at p.0 (properties_from ps) ≡ Some p.1
-unfolding IsStrictlySortedBy
-found_at [] i p sorted is within = absurd (omega arith)
-found_at (q ∷ ps) zero p sorted is within = let same : q ≡ p = cc in rw (same_key p.0 q.0 (ap (λ x. x.0) same)) (ap (λ x. Some x.1) same)
-found_at (q ∷ ps) (suc i) p sorted is within =
-    let less : compared q.0 (get_or (keys_of ps) i []) ≡ Less = key_among (λ y. compared q.0 y ≡ Less) (keys_of ps) i sorted.0 (omega (arith, length-keys ps)) in
-    rw (lower_differs p.0 q.0 (ap (compared q.0) (sym (key_read ps i p is)) ∙ less)) (found_at ps i p sorted.1 is (omega arith))
-
--- no property has the key
-pub none_found : (ps : List (List ℕ × Rules)) (k : List ℕ) → ((j : ℕ) → j < length ps → pointwise nat_eq k (get_or (keys_of ps) j []) ≡ false) → schema_at k (properties_from ps) ≡ None
-none_found [] k differ = refl
-none_found (p ∷ ps) k differ = rw (differ 0 (omega arith)) (none_found ps k (λ j h. differ (suc j) (omega arith)))
-
--- no property has a key that would go between two
-pub none_between : (ps : List (List ℕ × Rules)) (k : List ℕ) (i : ℕ) → ((j : ℕ) → j < i → compared (get_or (keys_of ps) j []) k ≡ Less)
-    → ((j : ℕ) → i ≤ j → j < length ps → compared (get_or (keys_of ps) j []) k ≡ Greater) → schema_at k (properties_from ps) ≡ None
-none_between ps k i lower greater = none_found ps k (λ j h. elim (cases_lt j i) [
-  | inl before ↦ lower_differs k (get_or (keys_of ps) j []) (lower j before)
-  | inr after ↦ greater_differs k (get_or (keys_of ps) j []) (greater j after h)
-])
+-- what a look at a place lends is what is read there
+pub lent_at : {X : Type 0} (P : Bor X → Type 0) (xs : List X) (i : ℕ) (r : Option (Bor X))
+    → IfSome r (λ x. x.now ≡ get_or xs i x.now) → MatchOption r (length xs ≤ i) (λ x. (i < length xs) × P x)
+    → option_map (λ x. x.now) r ≡ slice_get xs i
+lent_at P xs i None is there = sym (slice_get_past xs i there)
+lent_at P xs i (Some x) is there = sym (slice_get_read xs (length xs) i x.now refl there.0 is)

@@ -1,5 +1,5 @@
 -- What a schema states: plain data, which definitions compute on.
-use Rattle.std.specs.Prelude.{ℕ, suc, max, List, [], ◌∷◌, nat_eq, true, if◌then◌else◌, Option, Some, None}
+use Rattle.std.specs.Prelude.{ℕ, suc, max, List, [], nat_eq, true, if◌then◌else◌, Option, Some, None}
 use Rattle.std.specs.Cmp.Lexicographic.{pointwise}
 use Rattle.schema_core.specs.declared.words.Words.{Words}
 
@@ -17,11 +17,6 @@ mutual
   pub data Within : Type 0 where
     anything : Within
     each : Rules → Within
-
--- the properties of a plain list of pairs
-abbrev pub properties_from : List (List ℕ × Rules) → Properties
-properties_from [] = no_properties
-properties_from (p ∷ ps) = property p.0 p.1 (properties_from ps)
 
 -- the words on the value itself
 abbrev pub words_of : Rules → Words

@@ -29,7 +29,7 @@ pub type References = Items<Reference>;
 /// the items of an array in order.
 ///
 /// A string is a reference if a schema with the word `cordra` is applied to it, through `properties` and `items`. The
-/// time is linear in the value, but for a binary search among the properties at each key, and in what is returned.
+/// time is linear in value and schema, and in what is returned.
 pub fn references(alloc: Global, schema: &Schema, value: &Json) -> Result<References, AllocError>
     ensures { IfOk result (λ found. found ≡ references_in schema.now (value_of value.now)) }
 {

@@ -21,8 +21,8 @@ pub trait ReferenceTest {
 
 /// Whether the test holds of every reference in the value, those that [`references`](crate::references) lists.
 ///
-/// It takes no memory. The test is asked of one reference after another, until it fails. The time is linear in the
-/// value, but for a binary search among the properties at each key. The stack grows with the nesting of the value.
+/// It takes no memory. The test is asked of one reference after another, until it fails. The time is linear in value
+/// and schema, beside that of the test. The stack grows with the nesting of the value.
 pub fn every_reference<T: ReferenceTest>(schema: &Schema, value: &Json, test: &T) -> bool
     ensures { result ≡ all_pass (T.holds_of test.now) (references_in schema.now (value_of value.now)) }
 {

@@ -1,11 +1,9 @@
 //! Reading a JSON value as a schema.
-ghost use Rattle.std.specs.Prelude.{◌≡◌, None, IfOk, IfErr};
-ghost use Rattle.std.specs.Map.{keys_of};
+ghost use Rattle.std.specs.Prelude.{◌≡◌, None, IfOk, IfErr, length};
 ghost use Rattle.doip_json.specs.Value.{table, entries_from};
 ghost use Rattle.doip_json.specs.Meaning.{value_of};
-ghost use Rattle.doip_json.specs.Sound.{IsAscending};
-ghost use Rattle.schema_core.specs.Rules.{properties_from, words_of, plain};
-ghost use Rattle.schema_core.specs.Kept.{within_from};
+ghost use Rattle.schema_core.specs.Rules.{no_properties, words_of, plain};
+ghost use Rattle.schema_core.specs.Kept.{keyed, within_from};
 ghost use Rattle.schema_core.specs.Reading.{words_in, rules_in, properties_at, schemas_in, each_schema, within_at, fault_of, IsFaultOf};
 
 use crate::checking::check;
@@ -16,7 +14,8 @@ use crate::values::{
 };
 use crate::words::Words;
 use base_core::Items;
-use doip_json::{Json, JsonMap, Str};
+use doip_json::{Json, JsonMap};
+use indexmap::IndexSet;
 use std::alloc::{AllocError, Global};
 
 /// The schema that a JSON value is.
@@ -45,7 +44,7 @@ fn stated(alloc: Global, value: &Json) -> Result<Schema, AllocError>
 {
     match value {
         Json::Table(map) => object_stated(alloc, map),
-        _ => Ok(Schema::of(none(alloc), Vec::new(alloc), None)),
+        _ => Ok(nothing_stated(alloc)),
     }
 }
 
@@ -54,45 +53,50 @@ fn object_stated(alloc: Global, map: &JsonMap) -> Result<Schema, AllocError>
     ensures { IfOk result (λ schema. schema ≡ rules_in (table (entries_from map.now))) }
 {
     let words = words_of(alloc, map)?;
-    let properties = properties_of(alloc, map)?;
+    let (keys, properties) = properties_of(alloc, map)?;
     let items = items_of(alloc, map)?;
-    Ok(Schema::of(words, properties, items))
+    Ok(Schema::of(words, keys, properties, items))
 }
 
+// Keys, and the schema of each at its place.
+type Keyed = (IndexSet<String>, Vec<Schema>);
+
 #[cycle(reading)]
-fn properties_of(alloc: Global, map: &JsonMap) -> Result<Vec<(Str, Schema)>, AllocError>
-    ensures ascending { IfOk result (λ made. IsAscending (keys_of made.items)) }
-    ensures stated { IfOk result (λ made. properties_from made.items ≡ properties_at (entries_from map.now)) }
+fn properties_of(alloc: Global, map: &JsonMap) -> Result<Keyed, AllocError>
+    ensures even { IfOk result (λ made. length made.0.keys ≡ length made.1.items) }
+    ensures stated { IfOk result (λ made. keyed made.0.keys made.1.items ≡ properties_at (entries_from map.now)) }
 {
     match map.get("properties") {
         Some(value) => schemas_of(alloc, value),
-        None => Ok(Vec::new(alloc)),
+        None => Ok(no_properties(alloc)),
     }
 }
 
 #[cycle(reading)]
-fn schemas_of(alloc: Global, value: &Json) -> Result<Vec<(Str, Schema)>, AllocError>
-    ensures ascending { IfOk result (λ made. IsAscending (keys_of made.items)) }
-    ensures stated { IfOk result (λ made. properties_from made.items ≡ schemas_in (value_of value.now)) }
+fn schemas_of(alloc: Global, value: &Json) -> Result<Keyed, AllocError>
+    ensures even { IfOk result (λ made. length made.0.keys ≡ length made.1.items) }
+    ensures stated { IfOk result (λ made. keyed made.0.keys made.1.items ≡ schemas_in (value_of value.now)) }
 {
     match value {
         Json::Table(map) => each_of(alloc, map),
-        _ => Ok(Vec::new(alloc)),
+        _ => Ok(no_properties(alloc)),
     }
 }
 
 #[cycle(reading)]
-fn each_of(alloc: Global, map: &JsonMap) -> Result<Vec<(Str, Schema)>, AllocError>
-    ensures ascending { IfOk result (λ made. IsAscending (keys_of made.items)) }
-    ensures stated { IfOk result (λ made. properties_from made.items ≡ each_schema (entries_from map.now)) }
+fn each_of(alloc: Global, map: &JsonMap) -> Result<Keyed, AllocError>
+    ensures even { IfOk result (λ made. length made.0.keys ≡ length made.1.items) }
+    ensures stated { IfOk result (λ made. keyed made.0.keys made.1.items ≡ each_schema (entries_from map.now)) }
 {
-    let mut made = Vec::new(alloc);
+    let mut keys = IndexSet::new(alloc);
+    let mut schemas = Vec::new(alloc);
     for i in 0..map.len() {
-        let key = Str::of(alloc, map.key_at(i).get())?;
+        let key = String::from_str(alloc, map.key_at(i).get())?;
         let schema = stated(alloc, map.value_at(i))?;
-        made.push((key, schema))?;
+        keys.insert(key)?;
+        schemas.push(schema)?;
     }
-    Ok(made)
+    Ok((keys, schemas))
 }
 
 #[cycle(reading)]
@@ -124,6 +128,22 @@ fn words_of(alloc: Global, map: &JsonMap) -> Result<Words, AllocError>
         additional_properties: additional_at(map),
         reference: reference_at(alloc, map)?,
     })
+}
+
+// The schema that asks nothing.
+fn nothing_stated(alloc: Global) -> Schema
+    ensures { result ≡ plain }
+{
+    let (keys, properties) = no_properties(alloc);
+    Schema::of(none(alloc), keys, properties, None)
+}
+
+// No key.
+fn no_properties(alloc: Global) -> Keyed
+    ensures even { length result.0.keys ≡ length result.1.items }
+    ensures stated { keyed result.0.keys result.1.items ≡ no_properties }
+{
+    (IndexSet::new(alloc), Vec::new(alloc))
 }
 
 // No word.

@@ -1,12 +1,8 @@
 //! A schema, as it is kept.
-ghost use Rattle.std.specs.Prelude.{◌≡◌, option_map};
-ghost use Rattle.std.specs.Map.{keys_of};
-ghost use Rattle.doip_json.specs.Sound.{IsAscending};
-ghost use Rattle.schema_core.specs.Rules.{schema_at, properties_from};
+ghost use Rattle.std.specs.Prelude.{◌≡◌, option_map, length};
 
 use crate::words::Words;
-use doip_json::Str;
-use std::cmp::Ordering;
+use indexmap::IndexSet;
 use std::marker::Model;
 
 /// A schema: the words on a value itself, `properties` as a map and `items` as a box.
@@ -15,8 +11,10 @@ use std::marker::Model;
 #[derive(Debug, Drop)]
 pub struct Schema {
     words: Words,
-    // Ascending by the keys' bytes.
-    properties: Vec<(Str, Schema)>,
+    // The keys under `properties`, by a hash of each.
+    keys: IndexSet<String>,
+    // The schema of each, at the place of its key.
+    properties: Vec<Schema>,
     items: Option<Box<Schema>>,
 }
 
@@ -28,37 +26,38 @@ impl Model for Schema {
 
     ghost coded = { rules_code };
 
-    ghost use Rattle.std.specs.Map.{keys_of};
-    ghost use Rattle.doip_json.specs.Sound.{IsAscending};
+    ghost use Rattle.std.specs.Prelude.{◌≡◌, length};
     ghost use Rattle.schema_core.specs.Rules.{height_of};
     ghost use Rattle.schema_core.specs.Kept.{stated};
 
     ghost view = { stated };
 
-    ghost invariant = { λ s. IsAscending (keys_of s.properties.items) };
+    ghost invariant = { λ s. length s.keys.keys ≡ length s.properties.items };
 
     ghost size = { height_of };
 
     ghost use Rattle.schema_core.specs.Falls.{schemas_fall};
 
-    ghost size_decreases = { λ s h. schemas_fall s };
+    ghost size_decreases = { λ s h. schemas_fall s h };
 }
 
 impl Schema {
-    ghost use Rattle.schema_core.specs.Rules.{rules, words_of, property_of, items_of, properties_from};
-    ghost use Rattle.schema_core.specs.Kept.{within_from};
+    ghost use Rattle.schema_core.specs.Rules.{rules, words_of, property_of, items_of};
+    ghost use Rattle.schema_core.specs.Kept.{keyed, within_from};
 
-    // A schema of these words, properties and items.
+    // A schema of these words, properties and items. Each property has its key at its own place.
     pub(crate) fn of(
         words: Words,
-        properties: Vec<(Str, Schema)>,
+        keys: IndexSet<String>,
+        properties: Vec<Schema>,
         items: Option<Box<Schema>>,
     ) -> Schema
-        requires { IsAscending (keys_of properties.items) }
-        ensures { result ≡ rules words (properties_from properties.items) (within_from items) }
+        requires { length keys.keys ≡ length properties.items }
+        ensures { result ≡ rules words (keyed keys.keys properties.items) (within_from items) }
     {
         Schema {
             words,
+            keys,
             properties,
             items,
         }
@@ -81,28 +80,13 @@ impl Schema {
         }
     }
 
-    // The schema under `properties` of the key, if there is one, found by binary search.
+    // The schema under `properties` of the key, if there is one.
     pub(crate) fn property(&self, key: &str) -> Option<&Schema>
         ensures { option_map (λ inner. inner.now) result ≡ property_of key.now self.now }
     {
-        found(&self.properties, key)
-    }
-}
-
-fn found<'a>(properties: &'a [(Str, Schema)], key: &str) -> Option<&'a Schema>
-    requires { IsAscending (keys_of properties.now) }
-    ensures { option_map (λ inner. inner.now) result ≡ schema_at key.now (properties_from properties.now) }
-{
-    let mut low = 0;
-    let mut high = properties.len();
-    while low < high {
-        let middle = low + (high - low) / 2;
-        let (name, inner) = &properties[middle];
-        match name.get().cmp(key) {
-            Ordering::Less => low = middle + 1,
-            Ordering::Equal => return Some(inner),
-            Ordering::Greater => high = middle,
+        match self.keys.get_index_of(key) {
+            Some(place) => self.properties.get(place),
+            None => None,
         }
     }
-    None
 }

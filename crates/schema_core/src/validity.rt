@@ -15,8 +15,8 @@ use doip_json::{Json, JsonList, JsonMap};
 /// `minItems`, `maxItems`, `required`. Then come the entries of an object, ascending by keys, each by
 /// `additionalProperties` or by the schema of its key, or the items of an array, in order.
 ///
-/// It takes no memory. The time is linear in the value, but for `enum` and `required`, and for a binary search among
-/// the properties at each key. The stack grows with the nesting of the value.
+/// It takes no memory. The time is linear in value and schema, but for `enum`, for `required`, and for a kind that stands
+/// more than once in `type`; a key's schema is found by a hash. The stack grows with the nesting of the value.
 #[cycle(validity)]
 pub fn valid(schema: &Schema, value: &Json) -> Option<SchemaWord>
     ensures { IsFirstWord schema.now (value_of value.now) result }

@@ -1,7 +1,7 @@
-use Rattle.std.proofs.Common.{◌≡◌, ◌+◌, ◌*◌, take}
+use Rattle.std.proofs.Common.{◌+◌, ◌*◌, take}
 use Rattle.doip_json.specs.Value.{depth_of, deepest_entry, entries_from}
 use Rattle.doip_json.specs.Meaning.{value_of}
-use Rattle.schema_core.proofs.ReadingLemmas.{stated_pairs}
+use Rattle.schema_core.proofs.ReadingLemmas.{AreOf}
 use Rattle.schema_core.proofs.reading.+reading.Given as goal
 
 abbrev pub decreases-stated : goal.decreases-stated
@@ -23,4 +23,4 @@ abbrev pub decreases-items_of : goal.decreases-items_of
 decreases-items_of l = 4 * deepest_entry (entries_from l.map.now) + 2
 
 abbrev pub invariant-each_of-loop-i : goal.invariant-each_of-loop-i
-invariant-each_of-loop-i l = l.made.items ≡ stated_pairs (take l.i l.map)
+invariant-each_of-loop-i l = AreOf (take l.i l.map) l.keys.keys l.schemas.items
