@@ -54,7 +54,7 @@ impl<D: Disk, C: Clock, P: Planner> Store<D, C, P> {
         ensures planner_back { IfErr result (λ refusal. refusal.planner ≡ planner) }
     {
         let (journal, table) = match disk {
-            Some(disk) => match open_file(alloc, disk) {
+            Some(disk) => match open_table(alloc, disk) {
                 Ok((journal, table)) => (Some(journal), table),
                 Err((disk, fault)) => return Err(NotOpened {
                     disk: Some(disk),
@@ -76,8 +76,16 @@ impl<D: Disk, C: Clock, P: Planner> Store<D, C, P> {
     }
 }
 
-// The journal of a file, and the table that its records give.
-fn open_file<D: Disk>(alloc: Global, disk: D) -> Result<(Journal<D>, Table), (D, StoreFault)>
+/// The journal of a file that a crash may have left, and the table that its records give. It reads the file once and
+/// writes nothing. If it refuses, it hands the disk back.
+///
+/// # Errors
+/// `NotAStore`, `Version`, `Damaged` and `Unsound` exactly for what the file's bytes say; `DiskFault` only if the disk
+/// failed in this call; `Memory`.
+pub fn open_table<D: Disk>(
+    alloc: Global,
+    disk: D,
+) -> Result<(Journal<D>, Table), (D, StoreFault)>
     ensures opened { IfOk result (λ opened. OpensFile (D.state disk) opened.0 opened.1.contents) }
     ensures refused { IfErr result (λ refusal. IsRefusedFor (D.state disk) (D.state refusal.0) refusal.1) }
 {

@@ -1,5 +1,5 @@
 use Rattle.repo_store.proofs.Opened.{inside, opens_file, replay_refused_by}
-use Rattle.repo_store.proofs.opening.open_file.Goals as goal
+use Rattle.repo_store.proofs.opening.open_table.Goals as goal
 
 pub returns-in-Ok-replay-clause-opened : goal.returns-in-Ok-replay-clause-opened
 returns-in-Ok-replay-clause-opened g c = opens_file g.D.Disk (g.D.Disk.state c.args.disk) c.in-Ok.journal c.in-Ok.records c.in-Ok.ensures.opened c.in-Ok-replay.table c.in-Ok-replay.ensures c.counter.ensures.consistent
