@@ -5,3 +5,4 @@ pub mod Survival
 pub mod Since
 pub mod Turning
 pub mod Opened
+pub mod OverFiles

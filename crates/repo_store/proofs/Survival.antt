@@ -187,7 +187,7 @@ room_on : (brought : Brought) (change : Option Change) (s : State) → s.room �
 room_on brought None s is = is
 room_on brought (Some change) s is = ap (λ (r : Option Room). Rattle.repo_step.specs.Step.room_after change r) is
 
-room_with : (o : Outcome) (setting : Setting) (s : State) (e : Entry) → s.room ≡ None → (state_with o e.brought (step_of setting s e) s).room ≡ None
+pub room_with : (o : Outcome) (setting : Setting) (s : State) (e : Entry) → s.room ≡ None → (state_with o e.brought (step_of setting s e) s).room ≡ None
 room_with Done setting s e is = room_on e.brought (step_of setting s e).change s is
 room_with NoMemory setting s e is = is
 room_with DiskFault setting s e is = is
@@ -309,7 +309,7 @@ module _ {D : Type 0} (g : Ghosts D) (setting : Setting) where
             (subst (λ (n : ℕ). Rose (faults_in first.journal) n) (sym count) fell.rose, same.0 ∙ fell.count ∙ ap (λ (n : ℕ). Some (min n (2 ^ 64 - 1))) (sym count))
       ]
 
-  bare : (j : Option (Journal D g)) → room_in j ≡ None → j ≡ None
+  pub bare : (j : Option (Journal D g)) → room_in j ≡ None → j ≡ None
   bare None is = refl
   bare (Some j) is = absurd (cc)
 

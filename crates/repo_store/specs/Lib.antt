@@ -4,3 +4,4 @@ pub mod Store
 pub mod Opening
 pub mod Survival
 pub mod Law
+pub mod Files

@@ -21,6 +21,7 @@ use Rattle.repo_store.specs.declared.work.ReplyText.{ReplyText}
 use Rattle.repo_store.specs.declared.work.ReplyText.TheVariants.{Made, Constant}
 use Rattle.repo_store.specs.declared.work.Work.{Work}
 use Rattle.repo_store.specs.declared.work.Told.{Told}
+use Rattle.repo_store.specs.declared.store.Store.{Store}
 use Rattle.repo_store.specs.Saved.{room_in, moment_in, faults_in, Reports, KeepsRecords, LeavesBetween, LeavesFrom}
 use Rattle.repo_store.specs.Stands.{GiveContents, LeftBy, Stands}
 
@@ -132,3 +133,13 @@ module _ {D : Type 0} {g : Ghosts D} where
     pub turns : Turns before old e (text_with told.outcome told.buffer.items) new
     pub text : told.text ≡ place_of told.outcome
     pub decoder : told.decoder ≡ work.decoder
+
+-- what contracts see of a store, of its clock and of its planner
+abbrev pub seen_of : {D C P : Type 0} {g : Ghosts D} → (C → Option (List ℕ)) → Store D C P g → Seen D g
+seen_of given s = seen s.journal s.table.contents s.closed (given s.clock)
+
+abbrev pub clock_in : {D C P : Type 0} {g : Ghosts D} → Store D C P g → C
+clock_in s = s.clock
+
+abbrev pub planner_in : {D C P : Type 0} {g : Ghosts D} → Store D C P g → P
+planner_in s = s.planner

@@ -1,4 +1,5 @@
 //! What any list of turns leaves. Each call does nothing when it runs: a proof calls it for its clause.
+ghost use Rattle.repo_store.specs.Files.{LawOfFiles};
 ghost use Rattle.repo_store.specs.Law.{LawOfRuns, LawOfReopening, LawSince};
 
 use disk_core::Disk;
@@ -14,6 +15,13 @@ pub fn runs_are_histories<D: Disk>()
 /// The same of crashes since a disk was opened, also across calls that keep the contents, as a compaction does.
 pub fn runs_survive_crashes<D: Disk>()
     ensures { LawSince D.Disk }
+{}
+
+/// What a list of turns leaves of the disk of a store that was just opened: its first state is that of the file, each
+/// crash since then leaves a prefix of the changes with every acknowledged one, and a turn that met a disk fault has
+/// raised the disk's count. A store without a disk stays without, and its turns meet no disk fault.
+pub fn runs_leave_their_files<D: Disk>()
+    ensures { LawOfFiles D.Disk }
 {}
 
 /// A file that stands for contents stands for these alone, and no opening refuses it but for a fault of the disk or for

@@ -13,7 +13,9 @@ mod store;
 mod work;
 
 pub use fault::StoreFault;
-pub use laws::{images_keep_their_contents, runs_are_histories, runs_survive_crashes};
+pub use laws::{
+    images_keep_their_contents, runs_are_histories, runs_leave_their_files, runs_survive_crashes,
+};
 pub use opening::{NotOpened, open_table};
 pub use planner::{Planner, Service};
 pub use store::Store;

@@ -1,6 +1,7 @@
 //! Opening a store over a file.
 ghost use Rattle.std.specs.Prelude.{◌≡◌, ◌+◌, ◌≤◌, length, take, None, IfOk, IfErr};
 ghost use Rattle.journal_core.specs.Journal.{told, room_for};
+ghost use Rattle.repo_store.specs.Store.{clock_in, planner_in, seen_of};
 ghost use Rattle.repo_store.specs.Opening.{Opens, OpensFile, IsRefused, IsRefusedFor, IsInside, body_place, fault_of_opening, fault_of_replay};
 
 use crate::{Planner, Store, StoreFault};
@@ -45,10 +46,11 @@ impl<D: Disk, C: Clock, P: Planner> Store<D, C, P> {
         planner: P,
         clock: C,
     ) -> Result<Store<D, C, P>, NotOpened<D, C, P>>
-        ensures opened { IfOk result (λ store. Opens disk store.journal store.table.contents) }
-        ensures open { IfOk result (λ store. store.closed ≡ None) }
-        ensures planner { IfOk result (λ store. store.planner ≡ planner) }
-        ensures clock { IfOk result (λ store. store.clock ≡ clock) }
+        ensures opened { IfOk result (λ store. Opens disk (seen_of C.given store).journal
+            (seen_of C.given store).contents) }
+        ensures not_closed { IfOk result (λ store. (seen_of C.given store).closed ≡ None) }
+        ensures planner { IfOk result (λ store. planner_in store ≡ planner) }
+        ensures clock { IfOk result (λ store. clock_in store ≡ clock) }
         ensures refused { IfErr result (λ refusal. IsRefused D.state disk refusal.disk refusal.fault) }
         ensures clock_back { IfErr result (λ refusal. refusal.clock ≡ clock) }
         ensures planner_back { IfErr result (λ refusal. refusal.planner ≡ planner) }

@@ -12,7 +12,7 @@ ghost use Rattle.repo_step.specs.Step.{after_change, step};
 ghost use Rattle.repo_store.specs.declared.store.Failure.TheVariants.{Memory, Disk};
 ghost use Rattle.repo_store.specs.Saved.{room_in, disk_in, moment_in, faults_in, Reports, KeepsRecords, LeavesBetween};
 ghost use Rattle.repo_store.specs.Stands.{StandsEither};
-ghost use Rattle.repo_store.specs.Store.{IsTurnOf, KeepsContents, Turns, entry_of, place_of, record_of, seen, text_with};
+ghost use Rattle.repo_store.specs.Store.{IsTurnOf, KeepsContents, Turns, clock_in, entry_of, place_of, planner_in, record_of, seen, seen_of, text_with};
 
 use crate::Planner;
 use crate::saving::{moment_of, room_of, save};
@@ -176,14 +176,12 @@ impl<D: Disk, C: Clock, P: Planner> Store<D, C, P> {
     /// Every outcome but `Done` leaves the contents and the used bytes, and has its own constant as the reply.
     pub fn turn(&mut self, work: Work) -> Told
         requires waiting { IsStanding work.decoder }
-        ensures turn { Turns (P.setting self.old.planner)
-            (seen self.old.journal self.old.table.contents self.old.closed (C.given self.old.clock))
+        ensures turn { Turns (P.setting (planner_in self.old)) (seen_of C.given self.old)
             (entry_of work.lane work.session work.decoder.segments result.outcome result.moment.number result.brought)
-            (text_with result.outcome result.buffer.items)
-            (seen self.new.journal self.new.table.contents self.new.closed (C.given self.new.clock)) }
+            (text_with result.outcome result.buffer.items) (seen_of C.given self.new) }
         ensures text { result.text ≡ place_of result.outcome }
         ensures decoder { result.decoder ≡ work.decoder }
-        ensures planner { self.new.planner ≡ self.old.planner }
+        ensures planner { planner_in self.new ≡ planner_in self.old }
     {
         let Work {
             lane: _,
@@ -216,23 +214,23 @@ impl<D: Disk, C: Clock, P: Planner> Store<D, C, P> {
 
     /// How much of the area is used; `None` without a disk.
     pub fn room(&self) -> Option<Room>
-        ensures { result ≡ room_in self.now.journal }
+        ensures { result ≡ room_in (seen_of C.given self.now).journal }
     {
         room_of(&self.journal)
     }
 
     /// How often the disk had failed when the store was closed; `None` if it isn't closed.
     pub fn closed(&self) -> Option<u64>
-        ensures { result ≡ self.now.closed }
+        ensures { result ≡ (seen_of C.given self.now).closed }
     {
         self.closed
     }
 
     /// The disk, if there is one, the clock, and the planner.
     pub fn into_parts(self) -> (Option<D>, C, P)
-        ensures disk { result.0 ≡ disk_in self.journal }
-        ensures clock { result.1 ≡ self.clock }
-        ensures planner { result.2 ≡ self.planner }
+        ensures disk { result.0 ≡ disk_in (seen_of C.given self).journal }
+        ensures clock { result.1 ≡ clock_in self }
+        ensures planner { result.2 ≡ planner_in self }
     {
         let Store {
             journal,
@@ -294,9 +292,8 @@ impl<D: Disk, C: Clock, P: Planner> Turned for Store<D, C, P> {
 
     ghost may_take = { λ work. IsStanding work.decoder };
 
-    ghost step = { λ old work entry told new. IsTurnOf (P.setting old.planner) (P.setting new.planner)
-        (seen old.journal old.table.contents old.closed (C.given old.clock))
-        (seen new.journal new.table.contents new.closed (C.given new.clock)) work entry told };
+    ghost step = { λ old work entry told new. IsTurnOf (P.setting (planner_in old)) (P.setting (planner_in new))
+        (seen_of C.given old) (seen_of C.given new) work entry told };
 
     fn turn(&mut self, work: Work) -> Told {
         Store::turn(self, work)
