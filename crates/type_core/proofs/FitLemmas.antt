@@ -8,15 +8,15 @@ use Rattle.schema_core.specs.FirstFailure as first
 use Rattle.schema_core.specs.Rules.{Rules}
 use Rattle.schema_core.specs.References.{references_in, all_pass}
 use Rattle.type_core.specs.Names.{is_text, content_of}
-use Rattle.type_core.specs.Checked.{failure_of, is_met, first_unmet}
-use Rattle.type_core.specs.Sound.{fits_among}
+use Rattle.type_core.specs.Checked.{failure_of, is_met, unmet_among}
+use Rattle.type_core.specs.Sound.{fits}
 
 pub met_is : (f : List ℕ → List ℕ → Bool) (rs : List Reference)
-    → all_pass (λ id types. list_any (f id) types) rs ≡ is_none (first_unmet f rs)
+    → all_pass (λ id types. list_any (f id) types) rs ≡ is_none (unmet_among f rs)
 met_is f [] = refl
 met_is f (r ∷ rs) = by (is_met f r) (met_is f rs)
   where
-    by : (b : Bool) → all_pass (λ id types. list_any (f id) types) rs ≡ is_none (first_unmet f rs)
+    by : (b : Bool) → all_pass (λ id types. list_any (f id) types) rs ≡ is_none (unmet_among f rs)
         → (b && all_pass (λ id types. list_any (f id) types) rs)
         ≡ is_none (option_map (λ r. r.pointer) (cond (not b) (Some r) (find (λ r. not (is_met f r)) rs)))
     by true e = e
@@ -38,11 +38,11 @@ none_mapped f (Some a) = refl
 
 -- an object without content fits as `null` does
 pub fit_without : (f : List ℕ → List ℕ → Bool) (o : ObjectValue) (s : Rules) → None ≡ content_of o
-    → (is_none (first.first_failure s null) && is_none (first_unmet f (references_in s null))) ≡ fits_among f o s
+    → (is_none (first.first_failure s null) && is_none (unmet_among f (references_in s null))) ≡ fits f o s
 fit_without f o s none =
     ap (λ b. b
-    && is_none (first_unmet f (references_in s null))) (sym (none_mapped failure_of (first.first_failure s null)))
+    && is_none (unmet_among f (references_in s null))) (sym (none_mapped failure_of (first.first_failure s null)))
     ∙ ap
     (λ c.
     is_none (option_map failure_of (first.first_failure s (unwrap_or c null)))
-    && is_none (first_unmet f (references_in s (unwrap_or c null)))) none
+    && is_none (unmet_among f (references_in s (unwrap_or c null)))) none

@@ -127,7 +127,7 @@ module _ (m : Objects) (named : AreNamed m) (sound : IsSound m) where
 
 -- ---- the schema of a type
 
-abbrev the_content : List ℕ → Rules → TypeLists → Option (List ℕ) → TypeContent
+abbrev pub the_content : List ℕ → Rules → TypeLists → Option (List ℕ) → TypeContent
 the_content name schema lists hook = record { name = name; schema = schema; lists = lists; hook = hook }
 
 stated_parts : (x : Result (List ℕ) TypeFault) (y : Result Rules TypeFault) (z : Result TypeLists TypeFault)

@@ -7,4 +7,5 @@ pub mod PutLemmas
 pub mod RemoveLemmas
 pub mod ReplaceLemmas
 pub mod KeptLemmas
+pub mod StatedLemmas
 pub mod FitLemmas

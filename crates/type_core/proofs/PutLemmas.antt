@@ -6,8 +6,8 @@ use Rattle.dobj_model.specs.declared.object.ObjectValue.{ObjectValue}
 use Rattle.schema_core.specs.Rules.{Rules}
 use Rattle.schema_core.specs.References.{references_in}
 use Rattle.type_core.specs.Names.{is_text, is_type_object, checked_content}
-use Rattle.type_core.specs.Checked.{first_unmet, is_of_with}
-use Rattle.type_core.specs.Sound.{Objects, makes, maker, rules_at, is_of, fits, makes_same, is_name_in_use, is_sound_type, is_sound_in, IsSound, KeepsType, MayBePut}
+use Rattle.type_core.specs.Checked.{unmet_among, is_of_with}
+use Rattle.type_core.specs.Sound.{Objects, makes, maker, rules_at, is_of, fits_among, makes_same, is_name_in_use, is_sound_type, is_sound_in, IsSound, KeepsType, MayBePut}
 use Rattle.type_core.proofs.LeastLemmas.{same_id_turned, least_same, Passes}
 use Rattle.type_core.proofs.PlaceLemmas.{found_after, by_place, kept, put_there}
 use Rattle.type_core.proofs.SoundLemmas.{holds_some, alike, same, only_types, both_make, one_made, turned, not_in_use, free_of, none_more, rules_carried, typed_part, stated_part, states, alone, valid_part, met_part, stated_still}
@@ -63,9 +63,9 @@ module _ (m : Objects) (o : ObjectValue) (keeps : KeepsType m o) (free : is_type
           ∙ ap (λ x. is_text x t) (sym (keeps v (ap (finite.get m) (sym (same id o.id e)) ∙ is)).0) ∙ ty
       by v is ty false e = ap (λ x. option_map_or (λ w. is_text w.type_name t) x false) (kept m o id v is e) ∙ ty
 
-  fits_after : (p : ObjectValue) (r : Rules) → fits m p r ≡ true → fits after p r ≡ true
+  fits_after : (p : ObjectValue) (r : Rules) → fits_among m p r ≡ true → fits_among after p r ≡ true
   fits_after p r h =
-      ap (λ x. x && is_none (first_unmet (is_of after) (references_in r (checked_content p)))) (valid_part m p r h)
+      ap (λ x. x && is_none (unmet_among (is_of after) (references_in r (checked_content p)))) (valid_part m p r h)
       ∙ ap is_none (none_more (is_of m) (is_of after) still_of (references_in r (checked_content p))
       (met_part m p r h))
 
@@ -77,10 +77,10 @@ module _ (m : Objects) (o : ObjectValue) (keeps : KeepsType m o) (free : is_type
       ap (λ x. x && (not (is_type_object p) || is_sound_type after p)) typed
       ∙ stated_still m after p free_still (stated_part m p sound)
     where
-      typed : option_map_or (fits after p) (rules_at after p.type_name) false ≡ true
+      typed : option_map_or (fits_among after p) (rules_at after p.type_name) false ≡ true
       typed =
-          let r = holds_some (fits m p) (rules_at m p.type_name) (typed_part m p sound) in
-          ap (λ x. option_map_or (fits after p) x false) (rules_stay p.type_name r.0 r.1) ∙ fits_after p r.0 r.2
+          let r = holds_some (fits_among m p) (rules_at m p.type_name) (typed_part m p sound) in
+          ap (λ x. option_map_or (fits_among after p) x false) (rules_stay p.type_name r.0 r.1) ∙ fits_after p r.0 r.2
 
       free_still : is_name_in_use m p ≡ false → is_name_in_use after p ≡ false
       free_still none =
@@ -107,15 +107,15 @@ module _ (m : Objects) (o : ObjectValue) (keeps : KeepsType m o) (free : is_type
           cases true h = h
           cases false h = h
 
-      fit : fits after o may.schema ≡ true
+      fit : fits_among after o may.schema ≡ true
       fit =
           ap (λ x. is_none x
-          && is_none (first_unmet (is_of after) (references_in may.schema (checked_content o)))) may.valid
+          && is_none (unmet_among (is_of after) (references_in may.schema (checked_content o)))) may.valid
           ∙ ap is_none (none_more (is_of_with o (is_of m)) (is_of after) by_itself (references_in may.schema
           (checked_content o)) may.met)
 
-      typed : option_map_or (fits after o) (rules_at after o.type_name) false ≡ true
-      typed = ap (λ x. option_map_or (fits after o) x false) (rules_stay o.type_name may.schema may.known) ∙ fit
+      typed : option_map_or (fits_among after o) (rules_at after o.type_name) false ≡ true
+      typed = ap (λ x. option_map_or (fits_among after o) x false) (rules_stay o.type_name may.schema may.known) ∙ fit
 
       free_still : is_name_in_use m o ≡ false → is_name_in_use after o ≡ false
       free_still none =

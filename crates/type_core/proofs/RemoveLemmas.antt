@@ -19,8 +19,8 @@ use Rattle.type_core.specs.declared.content.TypeContent.{TypeContent}
 use Rattle.type_core.specs.declared.content.TypeFault.{TypeFault}
 use Rattle.type_core.specs.declared.content.TypeFault.TheVariants as faults
 use Rattle.type_core.specs.Content.{◌>>=◌, type_in, name_in, schema_in, lists_of, given_name, or_fault}
-use Rattle.type_core.specs.Checked.{first_unmet, is_met}
-use Rattle.type_core.specs.Sound.{Objects, makes, maker, rules_given, type_object, rules_at, is_of, fits, is_name_in_use, is_sound_type, is_sound_in, least_unsound, AreNamed, IsSound, leans_on, would_miss}
+use Rattle.type_core.specs.Checked.{unmet_among, is_met}
+use Rattle.type_core.specs.Sound.{Objects, makes, maker, rules_given, type_object, rules_at, is_of, fits_among, is_name_in_use, is_sound_type, is_sound_in, least_unsound, AreNamed, IsSound, leans_on, would_miss}
 use Rattle.type_core.proofs.LeastLemmas.{same_id, some_same, no_some, least_passes, least_same, Passes}
 use Rattle.type_core.proofs.SoundLemmas.{both_true, not_true, holds_some, same, only_types, both_make, not_in_use, free_of, rules_carried, typed_part, stated_part, states, alone, valid_part, met_part, stated_still}
 
@@ -119,15 +119,15 @@ module _ (m : Objects) (k : List ℕ) where
       ∙ ap (λ b. is_of m id t || b) (any_still id ts e)
 
   -- references that are all met are met without the object exactly if none names it
-  unmet_without : (rs : List Reference) → first_unmet (is_of m) rs ≡ None
-      → is_none (first_unmet (is_of without) rs) ≡ not (list_any (λ r. is_text r.id k) rs)
+  unmet_without : (rs : List Reference) → unmet_among (is_of m) rs ≡ None
+      → is_none (unmet_among (is_of without) rs) ≡ not (list_any (λ r. is_text r.id k) rs)
   unmet_without [] h = refl
   unmet_without (r ∷ rs) h = by (unmet_without rs) (is_met (is_of m) r) refl h
     where
-      over : (first_unmet (is_of m) rs ≡ None → is_none (first_unmet (is_of without) rs)
+      over : (unmet_among (is_of m) rs ≡ None → is_none (unmet_among (is_of without) rs)
           ≡ not (list_any (λ r. is_text r.id k) rs))
-          → is_met (is_of m) r ≡ true → first_unmet (is_of m) rs ≡ None → (t : Bool) → is_text r.id k ≡ t
-          → is_none (first_unmet (is_of without) (r ∷ rs)) ≡ not (t || list_any (λ r. is_text r.id k) rs)
+          → is_met (is_of m) r ≡ true → unmet_among (is_of m) rs ≡ None → (t : Bool) → is_text r.id k ≡ t
+          → is_none (unmet_among (is_of without) (r ∷ rs)) ≡ not (t || list_any (λ r. is_text r.id k) rs)
       over again met rest true t =
           ap (λ b. is_none (option_map (λ r. r.pointer) (cond (not b) (Some r) (find (λ r. not (is_met
           (is_of without) r)) rs))))
@@ -138,11 +138,11 @@ module _ (m : Objects) (k : List ℕ) where
           (any_still r.id r.types t ∙ met)
           ∙ again rest
 
-      by : (first_unmet (is_of m) rs ≡ None → is_none (first_unmet (is_of without) rs)
+      by : (unmet_among (is_of m) rs ≡ None → is_none (unmet_among (is_of without) rs)
           ≡ not (list_any (λ r. is_text r.id k) rs))
           → (b : Bool) → is_met (is_of m) r ≡ b
           → option_map (λ r. r.pointer) (cond (not b) (Some r) (find (λ r. not (is_met (is_of m) r)) rs)) ≡ None
-          → is_none (first_unmet (is_of without) (r ∷ rs)) ≡ not (list_any (λ r. is_text r.id k) (r ∷ rs))
+          → is_none (unmet_among (is_of without) (r ∷ rs)) ≡ not (list_any (λ r. is_text r.id k) (r ∷ rs))
       by again true e h = over again e h (is_text r.id k) refl
       by again false e h = absurd (no_some r.pointer h)
 
@@ -187,10 +187,10 @@ module _ (m : Objects) (k : List ℕ) where
         the_rest : (not (is_type_object p) || is_sound_type without p) ≡ true
         the_rest = stated_still m without p (free_without p) (stated_part m p (sound q p is))
 
-        fit : fits m p s ≡ true
-        fit = ap (λ x. option_map_or (fits m p) x false) (sym known) ∙ typed_part m p (sound q p is)
+        fit : fits_among m p s ≡ true
+        fit = ap (λ x. option_map_or (fits_among m p) x false) (sym known) ∙ typed_part m p (sound q p is)
 
-        unnamed : is_none (first_unmet (is_of without) (references_in s (checked_content p)))
+        unnamed : is_none (unmet_among (is_of without) (references_in s (checked_content p)))
             ≡ not (list_any (λ r. is_text r.id old.id) (references_in s (checked_content p)))
         unnamed =
             unmet_without (references_in s (checked_content p)) (met_part m p s fit)
@@ -204,16 +204,16 @@ module _ (m : Objects) (k : List ℕ) where
         by : (t : Bool) → makes p.type_name old ≡ t → is_sound_in without p
             ≡ not (t || list_any (λ r. is_text r.id old.id) (references_in s (checked_content p)))
         by true mk =
-            ap (λ x. option_map_or (fits without p) x false && (not (is_type_object p) || is_sound_type without p))
+            ap (λ x. option_map_or (fits_among without p) x false && (not (is_type_object p) || is_sound_type without p))
             (no_rules without p.type_name (stated_name p.type_name old mk (as_type m p.type_name old mk
             (sound k old at)).0) (lone_maker p.type_name mk))
         by false mk =
-            ap (λ x. option_map_or (fits without p) x false && (not (is_type_object p) || is_sound_type without p))
+            ap (λ x. option_map_or (fits_among without p) x false && (not (is_type_object p) || is_sound_type without p))
             (rules_carried m without p.type_name (λ j v is h. kept j v is h)
             (λ _ _ _ _. same_maker p.type_name mk) s known)
-            ∙ ap (λ x. fits without p s && x) the_rest ∙ also (fits without p s)
+            ∙ ap (λ x. fits_among without p s && x) the_rest ∙ also (fits_among without p s)
             ∙ ap (λ x. x
-            && is_none (first_unmet (is_of without) (references_in s (checked_content p))))
+            && is_none (unmet_among (is_of without) (references_in s (checked_content p))))
             (valid_part m p s fit)
             ∙ unnamed
           where
@@ -247,7 +247,7 @@ module _ (m : Objects) (k : List ℕ) where
         back : Passes (λ id o. not (is_sound_in without o)) without (would_miss m old) m
         back q p is h =
             let b = there_before q p is in
-            let r = holds_some (fits m p) (rules_at m p.type_name) (typed_part m p (sound q p b.1)) in (
+            let r = holds_some (fits_among m p) (rules_at m p.type_name) (typed_part m p (sound q p b.1)) in (
               b.1,
               ap (λ t. not t && option_map_or (λ s. leans_on old s p) (rules_at m p.type_name) false) (own q ∙ b.0)
                   ∙ ap (λ x. option_map_or (λ s. leans_on old s p) x false) r.1

@@ -7,8 +7,8 @@ use Rattle.schema_core.specs.Rules.{Rules, plain}
 use Rattle.schema_core.specs.References.{references_in}
 use Rattle.type_core.specs.Least.{least}
 use Rattle.type_core.specs.Names.{is_text, is_built_in, is_type_object, checked_content, plain_type, schema_type}
-use Rattle.type_core.specs.Checked.{failure_of, first_failing, first_unmet}
-use Rattle.type_core.specs.Sound.{Objects, makes, maker, rules_given, type_object, rules_at, is_of, fits, makes_same, is_name_in_use, is_sound_type, is_sound_in, least_unsound, AreNamed, IsSound, is_left_by, would_lose, MayReplace}
+use Rattle.type_core.specs.Checked.{failure_of, first_failing, unmet_among}
+use Rattle.type_core.specs.Sound.{Objects, makes, maker, rules_given, type_object, rules_at, is_of, fits_among, makes_same, is_name_in_use, is_sound_type, is_sound_in, least_unsound, AreNamed, IsSound, is_left_by, would_lose, MayReplace}
 use Rattle.type_core.proofs.LeastLemmas.{some_same, least_none, least_passes, least_same, Passes}
 use Rattle.type_core.proofs.PlaceLemmas.{by_place, kept, still, put_there}
 use Rattle.type_core.proofs.PlainLemmas.{nothing_fails, nothing_refers}
@@ -136,28 +136,28 @@ module _ (m : Objects) (old o : ObjectValue) (may : MayReplace m old o) (named :
       → is_sound_in after p ≡ not (is_left_by m old o p)
   sound_replaced q p is other = by (makes p.type_name old) refl (makes p.type_name o) refl
     where
-      fitting : (x : Option Rules) → option_map_or (fits after p) x false ≡ option_map_or (fits m p) x false
+      fitting : (x : Option Rules) → option_map_or (fits_among after p) x false ≡ option_map_or (fits_among m p) x false
       fitting None = refl
       fitting (Some s) =
           ap (λ f. is_none (first_failing s p)
-          && is_none (first_unmet f (references_in s (checked_content p)))) same_of
+          && is_none (unmet_among f (references_in s (checked_content p)))) same_of
 
       judged : (x : Option Rules) → rules_at after p.type_name ≡ x → is_sound_in after p
-          ≡ option_map_or (fits m p) x false
+          ≡ option_map_or (fits_among m p) x false
       judged x e =
-          ap (λ b. option_map_or (fits after p) (rules_at after p.type_name) false && b) (the_rest q p is other)
-          ∙ also (option_map_or (fits after p) (rules_at after p.type_name) false)
-          ∙ ap (λ y. option_map_or (fits after p) y false) e ∙ fitting x
+          ap (λ b. option_map_or (fits_among after p) (rules_at after p.type_name) false && b) (the_rest q p is other)
+          ∙ also (option_map_or (fits_among after p) (rules_at after p.type_name) false)
+          ∙ ap (λ y. option_map_or (fits_among after p) y false) e ∙ fitting x
 
       kept_fit : makes p.type_name old ≡ false → is_sound_in after p ≡ true
       kept_fit was =
-          let r = holds_some (fits m p) (rules_at m p.type_name) (typed_part m p (sound q p is)) in
+          let r = holds_some (fits_among m p) (rules_at m p.type_name) (typed_part m p (sound q p is)) in
           judged (Some r.0) (rules_kept p.type_name was r.0 r.1) ∙ r.2
 
       by : (a : Bool) → makes p.type_name old ≡ a → (b : Bool) → makes p.type_name o ≡ b
-          → is_sound_in after p ≡ not (a && not (b && option_map_or (fits m p) (rules_given o) false))
+          → is_sound_in after p ≡ not (a && not (b && option_map_or (fits_among m p) (rules_given o) false))
       by true was true mk = judged (rules_given o) (rules_new p.type_name was mk)
-          ∙ twice (option_map_or (fits m p) (rules_given o) false)
+          ∙ twice (option_map_or (fits_among m p) (rules_given o) false)
       by true was false mk = judged None (no_rules after p.type_name (unbuilt p.type_name was)
           (maker_none p.type_name was mk))
       by false was b mk = kept_fit was
@@ -173,16 +173,16 @@ module _ (m : Objects) (old o : ObjectValue) (may : MayReplace m old o) (named :
       built : is_built_in o.type_name ≡ true
       built = ap (λ b. is_text o.type_name plain_type || b) may.is_type ∙ or_true (is_text o.type_name plain_type)
 
-      fit : fits after o plain ≡ true
+      fit : fits_among after o plain ≡ true
       fit =
           ap (λ x. is_none (option_map failure_of x)
-          && is_none (first_unmet (is_of after) (references_in plain (checked_content o))))
+          && is_none (unmet_among (is_of after) (references_in plain (checked_content o))))
           (nothing_fails (checked_content o))
-          ∙ ap (λ rs. is_none (first_unmet (is_of after) rs)) (nothing_refers (checked_content o))
+          ∙ ap (λ rs. is_none (unmet_among (is_of after) rs)) (nothing_refers (checked_content o))
 
-      typed : option_map_or (fits after o) (rules_at after o.type_name) false ≡ true
+      typed : option_map_or (fits_among after o) (rules_at after o.type_name) false ≡ true
       typed =
-          ap (λ b. option_map_or (fits after o) (if b then Some plain else option_and_then rules_given
+          ap (λ b. option_map_or (fits_among after o) (if b then Some plain else option_and_then rules_given
           (type_object after o.type_name)) false) built
           ∙ fit
 

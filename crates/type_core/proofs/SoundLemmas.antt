@@ -13,8 +13,8 @@ use Rattle.schema_core.specs.References.{references_in}
 use Rattle.type_core.specs.Least.{least}
 use Rattle.type_core.specs.Names.{is_text, is_built_in, is_type_object, name_given, checked_content, string_at}
 use Rattle.type_core.specs.Content.{type_in}
-use Rattle.type_core.specs.Checked.{first_failing, first_unmet, is_met}
-use Rattle.type_core.specs.Sound.{Objects, makes, maker, type_object, rules_given, rules_at, is_of, fits, makes_same, is_name_in_use, is_sound_type, is_sound_in, least_unsound, IsSound}
+use Rattle.type_core.specs.Checked.{first_failing, unmet_among, is_met}
+use Rattle.type_core.specs.Sound.{Objects, makes, maker, type_object, rules_given, rules_at, is_of, fits_among, makes_same, is_name_in_use, is_sound_type, is_sound_in, least_unsound, IsSound}
 use Rattle.type_core.proofs.LeastLemmas.{same_id, level, no_some, least_none, least_passes}
 
 -- ---- tests
@@ -117,15 +117,15 @@ module _ (f g : List ℕ → List ℕ → Bool) (more : (id t : List ℕ) → f 
       by rest true e h = ap (λ b. b || list_any (g id) ts) (more id t e)
       by rest false e h = over (rest h) (g id t)
 
-  pub none_more : (rs : List Reference) → first_unmet f rs ≡ None → first_unmet g rs ≡ None
+  pub none_more : (rs : List Reference) → unmet_among f rs ≡ None → unmet_among g rs ≡ None
   none_more [] h = refl
   none_more (r ∷ rs) h = by (none_more rs) (any_more r.id r.types) (is_met f r) refl h
     where
-      by : (first_unmet f rs ≡ None → first_unmet g rs ≡ None) → (is_met f r ≡ true → is_met g r ≡ true)
+      by : (unmet_among f rs ≡ None → unmet_among g rs ≡ None) → (is_met f r ≡ true → is_met g r ≡ true)
           → (b : Bool)
           → is_met f r ≡ b
           → option_map (λ r. r.pointer) (cond (not b) (Some r) (find (λ r. not (is_met f r)) rs)) ≡ None
-          → first_unmet g (r ∷ rs) ≡ None
+          → unmet_among g (r ∷ rs) ≡ None
       by rest met true e h =
           ap (λ b. option_map (λ r. r.pointer) (cond (not b) (Some r) (find (λ r. not (is_met g r)) rs)))
           (met e) ∙ rest h
@@ -134,15 +134,15 @@ module _ (f g : List ℕ → List ℕ → Bool) (more : (id t : List ℕ) → f 
 -- ---- the parts of soundness
 
 pub typed_part : (m : Objects) (p : ObjectValue) → is_sound_in m p ≡ true
-    → option_map_or (fits m p) (rules_at m p.type_name) false ≡ true
+    → option_map_or (fits_among m p) (rules_at m p.type_name) false ≡ true
 typed_part m p h =
-    (both_true (option_map_or (fits m p) (rules_at m p.type_name) false) (not
+    (both_true (option_map_or (fits_among m p) (rules_at m p.type_name) false) (not
     (is_type_object p) || is_sound_type m p) h).0
 
 pub stated_part : (m : Objects) (p : ObjectValue) → is_sound_in m p ≡ true
     → (not (is_type_object p) || is_sound_type m p) ≡ true
 stated_part m p h =
-    (both_true (option_map_or (fits m p) (rules_at m p.type_name) false) (not
+    (both_true (option_map_or (fits_among m p) (rules_at m p.type_name) false) (not
     (is_type_object p) || is_sound_type m p) h).1
 
 pub states : (m : Objects) (p : ObjectValue) → is_sound_type m p ≡ true → is_ok (type_in (checked_content p)) ≡ true
@@ -151,16 +151,16 @@ states m p h = (both_true (is_ok (type_in (checked_content p))) (not (is_name_in
 pub alone : (m : Objects) (p : ObjectValue) → is_sound_type m p ≡ true → is_name_in_use m p ≡ false
 alone m p h = not_true _ (both_true (is_ok (type_in (checked_content p))) (not (is_name_in_use m p)) h).1
 
-pub valid_part : (m : Objects) (p : ObjectValue) (s : Rules) → fits m p s ≡ true
+pub valid_part : (m : Objects) (p : ObjectValue) (s : Rules) → fits_among m p s ≡ true
     → is_none (first_failing s p) ≡ true
 valid_part m p s h =
-    (both_true (is_none (first_failing s p)) (is_none (first_unmet (is_of m) (references_in s
+    (both_true (is_none (first_failing s p)) (is_none (unmet_among (is_of m) (references_in s
     (checked_content p)))) h).0
 
-pub met_part : (m : Objects) (p : ObjectValue) (s : Rules) → fits m p s ≡ true
-    → first_unmet (is_of m) (references_in s (checked_content p)) ≡ None
+pub met_part : (m : Objects) (p : ObjectValue) (s : Rules) → fits_among m p s ≡ true
+    → unmet_among (is_of m) (references_in s (checked_content p)) ≡ None
 met_part m p s h =
-    is_nothing _ (both_true (is_none (first_failing s p)) (is_none (first_unmet (is_of m) (references_in s
+    is_nothing _ (both_true (is_none (first_failing s p)) (is_none (unmet_among (is_of m) (references_in s
     (checked_content p)))) h).1
 
 -- soundness as a type object, from that among other objects that don't use the name

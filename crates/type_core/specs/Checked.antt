@@ -28,9 +28,9 @@ abbrev pub is_of_with : ObjectValue → (List ℕ → List ℕ → Bool) → Lis
 is_of_with o is_of id type_name = if is_text o.id id then is_text o.type_name type_name else is_of id type_name
 
 -- the pointer of the first reference that isn't met
-abbrev pub first_unmet : (List ℕ → List ℕ → Bool) → List Reference → Option (List ℕ)
-first_unmet is_of references = option_map (λ r. r.pointer) (find (λ r. not (is_met is_of r)) references)
+abbrev pub unmet_among : (List ℕ → List ℕ → Bool) → List Reference → Option (List ℕ)
+unmet_among is_of references = option_map (λ r. r.pointer) (find (λ r. not (is_met is_of r)) references)
 
 -- that of the content of an object, by itself and others
-abbrev pub unmet_in : Rules → ObjectValue → (List ℕ → List ℕ → Bool) → Option (List ℕ)
-unmet_in schema o is_of = first_unmet (is_of_with o is_of) (references_in schema (checked_content o))
+abbrev pub first_unmet : Rules → ObjectValue → (List ℕ → List ℕ → Bool) → Option (List ℕ)
+first_unmet schema o is_of = unmet_among (is_of_with o is_of) (references_in schema (checked_content o))

@@ -11,7 +11,7 @@ use Rattle.type_core.specs.declared.content.TypeFault.{TypeFault}
 use Rattle.type_core.specs.Least.{id_cmp, least}
 use Rattle.type_core.specs.Names.{is_text, is_built_in, is_type_object, name_given, checked_content}
 use Rattle.type_core.specs.Content.{type_in, schema_in}
-use Rattle.type_core.specs.Checked.{first_failing, first_unmet, unmet_in}
+use Rattle.type_core.specs.Checked.{first_failing, unmet_among, first_unmet}
 
 -- objects by their identifiers
 abbrev pub Objects : Type 0
@@ -52,13 +52,13 @@ abbrev pub is_of : Objects → List ℕ → List ℕ → Bool
 is_of objects id type_name = option_map_or (λ o. is_text o.type_name type_name) (finite.get objects id) false
 
 -- the content is valid to the schema, and its references are met by those of which the test holds
-abbrev pub fits_among : (List ℕ → List ℕ → Bool) → ObjectValue → Rules → Bool
-fits_among is_of o schema =
-    is_none (first_failing schema o) && is_none (first_unmet is_of (references_in schema (checked_content o)))
+abbrev pub fits : (List ℕ → List ℕ → Bool) → ObjectValue → Rules → Bool
+fits is_of o schema =
+    is_none (first_failing schema o) && is_none (unmet_among is_of (references_in schema (checked_content o)))
 
 -- the same, by the objects
-abbrev pub fits : Objects → ObjectValue → Rules → Bool
-fits objects = fits_among (is_of objects)
+abbrev pub fits_among : Objects → ObjectValue → Rules → Bool
+fits_among objects = fits (is_of objects)
 
 -- the other object makes a type of the same name
 abbrev pub makes_same : ObjectValue → ObjectValue → Bool
@@ -75,7 +75,7 @@ is_sound_type objects o = is_ok (type_in (checked_content o)) && not (is_name_in
 -- an object is sound among these: its type is known, its content fits, and so does what it says as a type object
 abbrev pub is_sound_in : Objects → ObjectValue → Bool
 is_sound_in objects o =
-    option_map_or (fits objects o) (rules_at objects o.type_name) false
+    option_map_or (fits_among objects o) (rules_at objects o.type_name) false
     && (not (is_type_object o) || is_sound_type objects o)
 
 -- the least identifier of an object that isn't sound
@@ -105,7 +105,7 @@ pub record MayBePut (objects : Objects) (o : ObjectValue) : Type 0 where
   pub schema : Rules
   pub known : rules_at objects o.type_name ≡ Some schema
   pub valid : first_failing schema o ≡ None
-  pub met : unmet_in schema o (is_of objects) ≡ None
+  pub met : first_unmet schema o (is_of objects) ≡ None
 
 -- ---- an object that is taken away
 
@@ -126,7 +126,7 @@ would_miss objects gone id o =
 abbrev pub is_left_by : Objects → ObjectValue → ObjectValue → ObjectValue → Bool
 is_left_by objects old new o =
     makes o.type_name old
-    && not (makes o.type_name new && option_map_or (fits objects o) (rules_given new) false)
+    && not (makes o.type_name new && option_map_or (fits_among objects o) (rules_given new) false)
 
 -- another object, that isn't sound once the new one takes the old one's place
 abbrev pub would_lose : Objects → ObjectValue → ObjectValue → List ℕ → ObjectValue → Bool

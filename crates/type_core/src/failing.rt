@@ -20,7 +20,7 @@ pub struct Failure {
 
 /// The first failure of the object's content by the schema, `None` exactly when the content is valid. An object without
 /// content is checked as if it had `null`. It takes memory for the pointer alone, so none where the content is valid.
-pub fn first_failure(
+pub fn first_failing(
     alloc: Global,
     schema: &Schema,
     object: &Object,

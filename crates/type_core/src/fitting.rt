@@ -5,8 +5,8 @@ ghost use Rattle.doip_json.specs.Meaning.{value_of};
 ghost use Rattle.schema_core.specs.FirstFailure as first;
 ghost use Rattle.schema_core.specs.References.{references_in};
 ghost use Rattle.type_core.specs.Names.{is_text, checked_content};
-ghost use Rattle.type_core.specs.Checked.{first_unmet};
-ghost use Rattle.type_core.specs.Sound.{makes, fits_among, leans_on};
+ghost use Rattle.type_core.specs.Checked.{unmet_among};
+ghost use Rattle.type_core.specs.Sound.{makes, fits, leans_on};
 
 use crate::names::name_given;
 use crate::referring::Typed;
@@ -73,7 +73,7 @@ pub fn makes(object: &Object, name: &str) -> bool
 /// objects, among which it stands itself. It takes no memory, and time linear in the content but for what `valid` of
 /// `schema_core` takes and the looks at the objects.
 pub fn fits<T: Typed>(schema: &Schema, object: &Object, objects: &T) -> bool
-    ensures { result ≡ fits_among (T.is_of objects.now) object.now schema.now }
+    ensures { result ≡ fits (T.is_of objects.now) object.now schema.now }
 {
     match object.content() {
         Some(content) => fits_in(schema, content, objects),
@@ -83,7 +83,7 @@ pub fn fits<T: Typed>(schema: &Schema, object: &Object, objects: &T) -> bool
 
 fn fits_in<T: Typed>(schema: &Schema, content: &Json, objects: &T) -> bool
     ensures { result ≡ (is_none (first.first_failure schema.now (value_of content.now))
-        && is_none (first_unmet (T.is_of objects.now) (references_in schema.now (value_of content.now)))) }
+        && is_none (unmet_among (T.is_of objects.now) (references_in schema.now (value_of content.now)))) }
 {
     is_valid(schema, content) && are_met(schema, content, objects)
 }
@@ -97,7 +97,7 @@ fn is_valid(schema: &Schema, content: &Json) -> bool
 }
 
 fn are_met<T: Typed>(schema: &Schema, content: &Json, objects: &T) -> bool
-    ensures { result ≡ is_none (first_unmet (T.is_of objects.now) (references_in schema.now (value_of content.now))) }
+    ensures { result ≡ is_none (unmet_among (T.is_of objects.now) (references_in schema.now (value_of content.now))) }
 {
     every_reference(schema, content, &Met { objects })
 }

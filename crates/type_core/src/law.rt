@@ -1,14 +1,17 @@
 //! What a change of one object does to the others.
-ghost use Rattle.std.specs.Prelude.{◌≡◌, ℕ, List, [], Bool, true, false, not, None, Some};
+ghost use Rattle.std.specs.Prelude.{◌≡◌, ℕ, List, [], codes, Bool, true, false, not, None, Some, Ok};
+ghost use Rattle.doip_json.specs.Value.{Value};
 ghost use Rattle.std.specs.FinMap as finite;
 ghost use Rattle.dobj_model.specs.declared.object.ObjectValue.{ObjectValue};
 ghost use Rattle.schema_core.specs.Rules.{Rules, plain};
 ghost use Rattle.schema_core.specs.References.{references_in};
 ghost use Rattle.type_core.specs.Least.{least};
-ghost use Rattle.type_core.specs.Names.{checked_content, is_type_object};
+ghost use Rattle.type_core.specs.Names.{checked_content, is_type_object, name_given, string_at};
 ghost use Rattle.type_core.specs.Checked.{first_failing};
-ghost use Rattle.type_core.specs.Sound.{Objects, AreNamed, IsSound, is_sound_in, least_unsound, rules_at, KeepsType, MayBePut, leans_on, would_miss, MayReplace, would_lose, is_name_in_use};
-ghost use Rattle.type_core.specs.Kept.{type_at, schema_at, type_after_put, type_after_removal};
+ghost use Rattle.type_core.specs.Sound.{Objects, AreNamed, makes, IsSound, is_sound_in, least_unsound, rules_at, KeepsType, MayBePut, leans_on, would_miss, MayReplace, would_lose, is_name_in_use};
+ghost use Rattle.type_core.specs.declared.content.TypeContent.{TypeContent};
+ghost use Rattle.type_core.specs.Content.{type_in, schema_in};
+ghost use Rattle.type_core.specs.Kept.{content_given, type_at, is_stated_elsewhere, schema_at, type_after_put, type_after_removal};
 
 /// All objects are sound if and only if none is the least that isn't. It does nothing when it runs: a proof calls it
 /// for its clauses.
@@ -61,8 +64,39 @@ pub fn types_follow_changes()
     ensures put { (objects : Objects) → AreNamed objects → IsSound objects → (o : ObjectValue)
         → (is_type_object o ≡ true → is_name_in_use objects o ≡ false) → (name : List ℕ)
         → type_at (finite.insert objects o.id o) name ≡ type_after_put objects o name }
+
+    // That a put type object's name is free comes from soundness afterwards.
+    ensures free { (objects : Objects) (o : ObjectValue) → IsSound (finite.insert objects o.id o)
+        → is_type_object o ≡ true → is_name_in_use objects o ≡ false }
     ensures removal { (objects : Objects) → AreNamed objects → IsSound objects → (id name : List ℕ)
         → type_at (finite.remove objects id) name ≡ type_after_removal objects id name }
     ensures schema { (objects : Objects) → IsSound objects → (name : List ℕ)
         → schema_at objects name ≡ rules_at objects name }
+{}
+
+/// Where all objects are sound, what is stated of a type is what the content of each object states that makes it, and
+/// nothing of a type that no object makes. So one look at each type object fills a [`Types`](crate::Types). It does
+/// nothing when it runs.
+pub fn sound_objects_state_their_types()
+    ensures made { (objects : Objects) → AreNamed objects → IsSound objects → (id : List ℕ) (o : ObjectValue)
+        → finite.get objects id ≡ Some o → (name : List ℕ) → makes name o ≡ true
+        → type_at objects name ≡ content_given o }
+    ensures unmade { (objects : Objects) (name : List ℕ)
+        → ((id : List ℕ) (o : ObjectValue) → finite.get objects id ≡ Some o → makes name o ≡ false)
+        → type_at objects name ≡ None }
+    ensures stated { (objects : Objects) → IsSound objects → (id : List ℕ) (o : ObjectValue)
+        → finite.get objects id ≡ Some o → is_type_object o ≡ true
+        → (t : TypeContent) × (content_given o ≡ Some t) × (name_given o ≡ Some t.name) }
+
+    // Whether another object gives a name is a look at what is stated of it, and at the object's own place.
+    ensures in_use { (objects : Objects) → AreNamed objects → IsSound objects → (o : ObjectValue)
+        → is_name_in_use objects o ≡ is_stated_elsewhere objects o }
+{}
+
+/// What content states as a type object has the name, the schema and the hook that stand in the content. It does
+/// nothing when it runs.
+pub fn type_objects_have_their_parts()
+    ensures { (content : Value) (t : TypeContent) → type_in content ≡ Ok t
+        → (string_at (codes "name") content ≡ Some t.name) × (schema_in content ≡ Ok t.schema)
+        × (string_at (codes "hook") content ≡ t.hook) }
 {}

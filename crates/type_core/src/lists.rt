@@ -4,7 +4,7 @@ ghost use Rattle.doip_json.specs.Value.{entries_from};
 ghost use Rattle.doip_json.specs.Meaning.{value_of};
 ghost use Rattle.type_core.specs.declared.content.TypeFault.TheVariants as faults;
 ghost use Rattle.schema_core.specs.Shapes.{names_in};
-ghost use Rattle.type_core.specs.Content.{Reads, or_fault, words_at, lists_in, lists_of, default_lists};
+ghost use Rattle.type_core.specs.Content.{Reads, or_fault, words_at, lists_in, lists_of, default_lists, schema_lists};
 
 use crate::content::TypeFault;
 use acl_core::TypeLists;
@@ -24,13 +24,26 @@ pub(crate) fn lists_of(alloc: Global, config: Option<&Json>) -> Result<TypeLists
     }
 }
 
-fn default_lists(alloc: Global) -> Result<TypeLists, AllocError>
+/// The lists of the type of plain objects, and of a type whose type object has no `authConfig`: everybody may read,
+/// the creator of an object write it, and every known caller create one.
+pub fn default_lists(alloc: Global) -> Result<TypeLists, AllocError>
     ensures { IfOk result (λ lists. lists ≡ default_lists) }
 {
     Ok(TypeLists {
         read: one(alloc, "public")?,
         write: one(alloc, "creator")?,
         create: one(alloc, "authenticated")?,
+    })
+}
+
+/// The lists of the type of type objects: everybody may read, the creator write, and nobody but the admin create one.
+pub fn schema_lists(alloc: Global) -> Result<TypeLists, AllocError>
+    ensures { IfOk result (λ lists. lists ≡ schema_lists) }
+{
+    Ok(TypeLists {
+        read: one(alloc, "public")?,
+        write: one(alloc, "creator")?,
+        create: Items::new(alloc),
     })
 }
 

@@ -22,6 +22,13 @@ pub fn is_built_in(name: &str) -> bool
     name == PLAIN || name == SCHEMA
 }
 
+/// Whether the object is of the type `Schema`, and so makes a type. It takes no memory.
+pub fn is_type_object(object: &Object) -> bool
+    ensures { result ≡ is_type_object object.now }
+{
+    object.type_name().get() == SCHEMA
+}
+
 /// Whether a type object may give this name.
 pub(crate) fn may_name(name: &str) -> bool
     ensures { result ≡ may_name name.now }
@@ -46,7 +53,7 @@ pub(crate) fn string_at<'a>(value: &'a Json, key: &str) -> Option<&'a str>
 pub fn name_given(object: &Object) -> Option<&str>
     ensures { option_map (λ found. found.now) result ≡ name_given object.now }
 {
-    if object.type_name().get() != SCHEMA {
+    if !is_type_object(object) {
         return None;
     }
     match object.content() {

@@ -3,7 +3,7 @@ ghost use Rattle.std.specs.Prelude.{◌≡◌, List, ℕ, Bool, option_map, IfOk
 ghost use Rattle.doip_json.specs.Meaning.{value_of};
 ghost use Rattle.schema_core.specs.References.{references_in};
 ghost use Rattle.type_core.specs.Names.{checked_content};
-ghost use Rattle.type_core.specs.Checked.{is_met, is_of_with, first_unmet, unmet_in};
+ghost use Rattle.type_core.specs.Checked.{is_met, is_of_with, unmet_among, first_unmet};
 
 use dobj_model::Object;
 use doip_json::{Json, Str};
@@ -31,7 +31,7 @@ pub fn first_unmet<T: Typed>(
     object: &Object,
     others: &T,
 ) -> Result<Option<Str>, AllocError>
-    ensures { IfOk result (λ pointer. pointer ≡ unmet_in schema.now object.now (T.is_of others.now)) }
+    ensures { IfOk result (λ pointer. pointer ≡ first_unmet schema.now object.now (T.is_of others.now)) }
 {
     let found = references_of(alloc, schema, object)?;
     match unmet_among(found.as_slice(), object, others) {
@@ -47,7 +47,7 @@ fn unmet_among<'a, T: Typed>(
     others: &T,
 ) -> Option<&'a Str>
     ensures { option_map (λ pointer. pointer.now) result
-        ≡ first_unmet (is_of_with object.now (T.is_of others.now)) references.now }
+        ≡ unmet_among (is_of_with object.now (T.is_of others.now)) references.now }
 {
     match references
         .iter()

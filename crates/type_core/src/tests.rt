@@ -2,8 +2,10 @@
 ghost use Rattle.std.specs.Prelude.{◌≡◌};
 
 use crate::{
-    Failure, TypeContent, TypeFault, Typed, Types, first_failure, first_unmet, name_given, type_of,
+    Failure, TypeContent, TypeFault, Typed, Types, default_lists, first_failing, first_unmet, fits,
+    is_type_object, leans_on, makes, name_given, schema_lists, type_of,
 };
+use acl_core::TypeLists;
 use dobj_model::{Elements, Id, Metadata, Object, ObjectValue, TypeName};
 use doip_json::{Json, JsonMap, Str, read};
 use schema_core::{Schema, schema_of};
@@ -32,7 +34,12 @@ fn map_of(alloc: Global, text: &str) -> Option<JsonMap> {
 
 // An object with the identifier `o`, of this type and with these attributes.
 fn object(alloc: Global, type_name: &str, attributes: &str) -> Option<Object> {
-    let id = Id::of(alloc, "o").ok()??;
+    object_at(alloc, "o", type_name, attributes)
+}
+
+// The same with this identifier.
+fn object_at(alloc: Global, id: &str, type_name: &str, attributes: &str) -> Option<Object> {
+    let id = Id::of(alloc, id).ok()??;
     let type_name = TypeName::of(alloc, type_name).ok()??;
     let attributes = map_of(alloc, attributes)?;
     let metadata = metadata(alloc)?;
@@ -58,10 +65,16 @@ fn type_shown(alloc: Global, content: &TypeContent) -> Option<String> {
         None => "-",
     };
     let name = content.name.get();
-    let read = first_word(content.lists.read.as_slice());
-    let write = first_word(content.lists.write.as_slice());
-    let create = first_word(content.lists.create.as_slice());
-    format!(in alloc; "{name} {read} {write} {create} {hook}").ok()
+    let lists = lists_shown(alloc, &content.lists)?;
+    format!(in alloc; "{name} {} {hook}", lists.as_str()).ok()
+}
+
+// The first word of each list.
+fn lists_shown(alloc: Global, lists: &TypeLists) -> Option<String> {
+    let read = first_word(lists.read.as_slice());
+    let write = first_word(lists.write.as_slice());
+    let create = first_word(lists.create.as_slice());
+    format!(in alloc; "{read} {write} {create}").ok()
 }
 
 fn first_word(words: &[Str]) -> &str {
@@ -136,6 +149,23 @@ fn each_part_of_a_type_object_is_stated_or_has_its_fault(rt: HostRuntime) -> Res
     Ok(())
 }
 
+// The lists of the types that are built in.
+fn built_in_lists(alloc: Global) -> Option<String> {
+    let plain = lists_shown(alloc, &default_lists(alloc).ok()?)?;
+    let schema = lists_shown(alloc, &schema_lists(alloc).ok()?)?;
+    format!(in alloc; "{}; {}", plain.as_str(), schema.as_str()).ok()
+}
+
+#[test]
+fn types_that_are_built_in_have_their_lists(rt: HostRuntime) -> Result<(), Fail> {
+    let lists = built_in_lists(rt.alloc()).ok_or("lists")?;
+    assert_eq!(rt;
+        lists.as_str(),
+        "public creator authenticated; public creator -"
+    );
+    Ok(())
+}
+
 fn failure_shown(alloc: Global, failure: &Failure) -> Option<String> {
     let word = failure.word.word();
     let pointer = failure.pointer.get();
@@ -146,7 +176,7 @@ fn failure_shown(alloc: Global, failure: &Failure) -> Option<String> {
 fn failed(alloc: Global, rules: &str, attributes: &str) -> Option<String> {
     let object = object(alloc, "Card", attributes)?;
     let rules = schema(alloc, rules)?;
-    match first_failure(alloc, &rules, &object).ok()? {
+    match first_failing(alloc, &rules, &object).ok()? {
         Some(failure) => failure_shown(alloc, &failure),
         None => String::from_str(alloc, "none").ok(),
     }
@@ -218,6 +248,82 @@ fn a_reference_is_met_by_the_object_itself_and_by_others(rt: HostRuntime) -> Res
     Ok(())
 }
 
+// References to objects of two types.
+const LINKS: &str =
+    r#"{"type":"object","properties":{"r":{"items":{"cordra":{"type":{"handleReference":{"types":["Box","Card"]}}}}}}}"#;
+
+// Whether an object `o` with these attributes fits the schema of links, beside `p`.
+fn is_fit(alloc: Global, attributes: &str) -> Option<bool> {
+    let object = object(alloc, "Card", attributes)?;
+    let rules = schema(alloc, LINKS)?;
+    Some(fits(&rules, &object, &Beside {}))
+}
+
+#[test]
+fn an_object_fits_by_its_content_and_its_references(rt: HostRuntime) -> Result<(), Fail> {
+    let alloc = rt.alloc();
+    assert!(rt; is_fit(alloc, r#"{"content":{"r":["p"]}}"#) == Some(true));
+    assert!(rt; is_fit(alloc, r#"{"content":{"r":["p","q"]}}"#) == Some(false));
+    assert!(rt; is_fit(alloc, r#"{"content":[]}"#) == Some(false));
+    assert!(rt; is_fit(alloc, "{}") == Some(false));
+    Ok(())
+}
+
+// Whether an object of the type `Card` with these attributes leans on another one.
+fn leans(alloc: Global, other: &Object, attributes: &str) -> Option<bool> {
+    let object = object_at(alloc, "q", "Card", attributes)?;
+    let rules = schema(alloc, LINKS)?;
+    Some(leans_on(other, &rules, &object))
+}
+
+// Whether it leans on a type object `o` that gives this name.
+fn leans_on_type(alloc: Global, given: &str, attributes: &str) -> Option<bool> {
+    let other = object(alloc, "Schema", given)?;
+    leans(alloc, &other, attributes)
+}
+
+#[test]
+fn an_object_leans_on_its_type_and_on_what_it_refers_to(rt: HostRuntime) -> Result<(), Fail> {
+    let alloc = rt.alloc();
+    let card = r#"{"content":{"name":"Card"}}"#;
+    let pack = r#"{"content":{"name":"Box"}}"#;
+    assert!(rt; leans_on_type(alloc, card, "{}") == Some(true));
+    assert!(rt; leans_on_type(alloc, pack, "{}") == Some(false));
+    assert!(rt; leans_on_type(alloc, pack, r#"{"content":{"r":["p","o"]}}"#) == Some(true));
+    assert!(rt; leans_on_type(alloc, pack, r#"{"content":{"r":["p"],"s":["o"]}}"#) == Some(false));
+    Ok(())
+}
+
+// Whether an object of this type and with these attributes makes the type `Card`.
+fn makes_card(alloc: Global, type_name: &str, attributes: &str) -> Option<bool> {
+    let object = object(alloc, type_name, attributes)?;
+    Some(makes(&object, "Card"))
+}
+
+#[test]
+fn a_type_object_makes_the_type_that_it_names(rt: HostRuntime) -> Result<(), Fail> {
+    let alloc = rt.alloc();
+    let card = r#"{"content":{"name":"Card"}}"#;
+    assert!(rt; makes_card(alloc, "Schema", card) == Some(true));
+    assert!(rt; makes_card(alloc, "0.TYPE/DO", card) == Some(false));
+    assert!(rt; makes_card(alloc, "Schema", r#"{"content":{"name":"card"}}"#) == Some(false));
+    assert!(rt; makes_card(alloc, "Schema", "{}") == Some(false));
+    Ok(())
+}
+
+// Whether an object of this type is a type object.
+fn is_type(alloc: Global, type_name: &str) -> Option<bool> {
+    let object = object(alloc, type_name, "{}")?;
+    Some(is_type_object(&object))
+}
+
+#[test]
+fn type_objects_are_those_of_the_type_schema(rt: HostRuntime) -> Result<(), Fail> {
+    assert!(rt; is_type(rt.alloc(), "Schema") == Some(true));
+    assert!(rt; is_type(rt.alloc(), "schema") == Some(false));
+    Ok(())
+}
+
 // Whether the name that is given is this one.
 fn gives(alloc: Global, type_name: &str, attributes: &str, name: Option<&str>) -> bool {
     match object(alloc, type_name, attributes) {
@@ -247,14 +353,6 @@ fn keep(alloc: Global, types: &mut Types, attributes: &str) -> Option<()> {
     Some(())
 }
 
-// The hook of a type, if the type is kept and has one.
-fn hook_of<'a>(types: &'a Types, name: &str) -> Option<&'a str> {
-    match &types.get(name)?.hook {
-        Some(hook) => Some(hook.get()),
-        None => None,
-    }
-}
-
 #[test]
 fn what_was_read_is_kept_by_name(rt: HostRuntime) -> Result<(), Fail> {
     let alloc = rt.alloc();
@@ -263,11 +361,13 @@ fn what_was_read_is_kept_by_name(rt: HostRuntime) -> Result<(), Fail> {
     keep(alloc, &mut types, card).ok_or("kept")?;
     let other = r#"{"content":{"name":"Box","schema":{},"hook":"count"}}"#;
     keep(alloc, &mut types, other).ok_or("kept")?;
-    assert!(rt; hook_of(&types, "Card") == Some("trim"));
-    assert!(rt; hook_of(&types, "Box") == Some("count"));
+    assert!(rt; types.hook("Card") == Some("trim"));
+    assert!(rt; types.hook("Box") == Some("count"));
     assert!(rt; types.get("card").is_none());
+    assert!(rt; types.hook("card").is_none());
+    assert!(rt; types.hook("Schema").is_none());
     types.remove("Card");
     assert!(rt; types.get("Card").is_none());
-    assert!(rt; hook_of(&types, "Box") == Some("count"));
+    assert!(rt; types.hook("Box") == Some("count"));
     Ok(())
 }

@@ -1,8 +1,10 @@
 //! What was read of type objects, by the names of their types.
 ghost use Rattle.std.specs.Prelude.{◌≡◌, ◌<◌, OnOk, option_map, string_bytes};
 ghost use Rattle.std.specs.FinMap as finite;
+ghost use Rattle.type_core.specs.Kept.{hook_of};
 
 use crate::content::TypeContent;
+use crate::names::is_built_in;
 use indexmap::IndexMap;
 use std::alloc::{AllocError, Global};
 use std::marker::Model;
@@ -44,6 +46,20 @@ impl Types {
         self.contents.get(name)
     }
 
+    /// The name of the hook of a type, if something is stated of the type and it has a hook. A type that is built in has
+    /// none.
+    pub fn hook(&self, name: &str) -> Option<&str>
+        ensures { option_map (λ hook. hook.now) result ≡ hook_of name.now (finite.get self.now.contents name.now) }
+    {
+        if is_built_in(name) {
+            return None;
+        }
+        match self.get(name) {
+            Some(content) => hook_in(content),
+            None => None,
+        }
+    }
+
     /// Makes room for one more. The room at least doubles when it grows.
     ///
     /// # Errors
@@ -71,5 +87,15 @@ impl Types {
         ensures { self.new.contents ≡ finite.remove self.old.contents name.now }
     {
         self.contents.swap_remove(name);
+    }
+}
+
+// The hook that a type object states.
+fn hook_in(content: &TypeContent) -> Option<&str>
+    ensures { option_map (λ hook. hook.now) result ≡ content.now.hook }
+{
+    match &content.hook {
+        Some(hook) => Some(hook.get()),
+        None => None,
     }
 }
