@@ -104,9 +104,10 @@ module _ {D : Type 0} (g : Ghosts D) where
           same = λ settled file at. λ m image low.
               let reports : Reports last.journal = reports_last (ap is_some at) in
               let past = (since g).past start setting first last es refl (λ _. opened.keeps settled)
-              ((since g).opens start j c opened settled (leaves.reported reports)) r reports m image low in
-              ((λ left. subst (λ (o : Option (Journal D g)). left_in o m image) is (past.0 left)),
-              (λ left. past.1 (subst (λ (o : Option (Journal D g)). left_in o m image) (sym is) left)));
+              ((since g).opens start j c opened settled (leaves.reported reports)) r reports m image low in (
+                (λ left. subst (λ (o : Option (Journal D g)). left_in o m image) is (past.0 left)),
+                (λ left. past.1 (subst (λ (o : Option (Journal D g)). left_in o m image) (sym is) left)),
+              );
           fault = λ fault.
               let cause = (open_runs g setting first last es refl r).cause fault in
               (omega (arith, cause.0, opened.alone.count, faults), cause.1 ∙ ap (λ (n : ℕ). Some (min n (2 ^ 64 - 1))) faults);
@@ -130,12 +131,14 @@ module _ {D : Type 0} (g : Ghosts D) where
       let first : Seen D g = seen None c None given in
       let leaves = leaves_runs g setting first last es r in
       let whole : AllByRecursion (λ e. IsWhole e.outcome) es = (open_runs g setting first last es refl r).whole refl in
-      let none : last.journal ≡ None = bare g setting last.journal (ap (λ (s : State). s.room) leaves.state ∙ none_all setting (state_in first) es refl) in
-      (ap (λ (o : Option (Journal D g)). disk_in o) none, record {
-        moments = no_moments (moment_in last.journal) es (ap (λ (o : Option (Journal D g)). moment_in o) none) leaves.within;
-        whole = whole;
-        not_closed = none_by last.closed (λ some. whole_fault es whole ((open_runs g setting first last es refl r).closed some));
-      })
+      let none : last.journal ≡ None = bare g setting last.journal (ap (λ (s : State). s.room) leaves.state ∙ none_all setting (state_in first) es refl) in (
+        ap (λ (o : Option (Journal D g)). disk_in o) none,
+        record {
+          moments = no_moments (moment_in last.journal) es (ap (λ (o : Option (Journal D g)). moment_in o) none) leaves.within;
+          whole = whole;
+          not_closed = none_by last.closed (λ some. whole_fault es whole ((open_runs g setting first last es refl r).closed some));
+        },
+      )
 
   pub law : LawOfFiles g
   law = record { over = over; without = without }

@@ -84,10 +84,7 @@ impl<D: Disk, C: Clock, P: Planner> Store<D, C, P> {
 /// # Errors
 /// `NotAStore`, `Version`, `Damaged` and `Unsound` exactly for what the file's bytes say; `DiskFault` only if the disk
 /// failed in this call; `Memory`.
-pub fn open_table<D: Disk>(
-    alloc: Global,
-    disk: D,
-) -> Result<(Journal<D>, Table), (D, StoreFault)>
+pub fn open_table<D: Disk>(alloc: Global, disk: D) -> Result<(Journal<D>, Table), (D, StoreFault)>
     ensures opened { IfOk result (λ opened. OpensFile (D.state disk) opened.0 opened.1.contents) }
     ensures refused { IfErr result (λ refusal. IsRefusedFor (D.state disk) (D.state refusal.0) refusal.1) }
 {
