@@ -1,7 +1,7 @@
 mod Lists
 mod Results
 mod Fields
-mod Written
+pub mod Written
 mod Parts
 mod Commits
 mod Causes

@@ -4,7 +4,7 @@ use Rattle.std.proofs.lemmas.Bool.Decides.{nat_tests}
 use Rattle.std.proofs.lemmas.List.{drop_at, drop-take, drop-drop, take-take, take_all}
 use Rattle.sha2.specs.Sha256.{sha256}
 use Rattle.journal_core.specs.File.{big_endian, fields_of, check_of, content_of, opened, listed, Fits, LacksRecord}
-use Rattle.journal_core.specs.Area.{rest_at, Reaches, IsFirstOf, IsRecordOf, IsNext, IsWithin}
+use Rattle.journal_core.specs.Area.{rest_at, Reaches, IsFirstOf, IsRecordOf, IsNext, IsNumberedNext, IsWithin}
 use Rattle.journal_core.specs.declared.area.Next.{Next}
 use Rattle.journal_core.specs.declared.layout.Format.{Format}
 use Rattle.journal_core.specs.declared.layout.Format.TheVariants.{First, Second}
@@ -164,6 +164,9 @@ count_more format used n rs later r more long is =
 
 pub next_is : (format : Format) (rest : List ℕ) (found next : Next) → found ≡ next → IsNext format rest found → IsNext format rest next
 next_is format rest found next is has = subst (IsNext format rest) is has
+
+pub next_numbered : (found next : Next) → found ≡ next → IsNumberedNext found → IsNumberedNext next
+next_numbered found next is has = subst IsNumberedNext is has
 
 pub within_is : (format : Format) (left : ℕ) (found next : Next) → found ≡ next → IsWithin format left found → IsWithin format left next
 within_is format left found next is has = subst (IsWithin format left) is has

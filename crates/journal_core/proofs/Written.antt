@@ -1,5 +1,5 @@
 -- Records as they are written, and that bytes are records in one way.
-use Rattle.std.proofs.Common.{◌≡◌, ◌≢◌, ℕ, ◌+◌, ◌^◌, ◌<◌, List, [], ◌∷◌, ◌++◌, length, take, drop, replicate, Some, refl, sym, ◌∙◌, ap, arith, append_assoc, length-append}
+use Rattle.std.proofs.Common.{◌≡◌, ◌≢◌, ℕ, ◌+◌, ◌^◌, ◌<◌, ◌≤◌, List, [], ◌∷◌, ◌++◌, length, take, drop, replicate, Some, refl, sym, ◌∙◌, ap, arith, append_assoc, length-append, length-take, take-append-drop}
 use Rattle.std.proofs.lemmas.List.{append-nil, take_at, drop_at, take_more, take_all}
 use Rattle.std.proofs.lemmas.Option.{get_or_from_slice_get}
 use borrow.Rule.Slice.PartMut.{put_mid}
@@ -9,7 +9,7 @@ use Rattle.std.specs.Prelude.{slice_get}
 use Rattle.std.specs.List.{flat_map}
 use Rattle.sha2.proofs.Facts256.{length-sha256}
 use Rattle.journal_core.specs.Layout.{version_of, fields_length, check_length}
-use Rattle.journal_core.specs.File.{big_endian, fields_of, check_of, content_of, Fits, opened, listed, staged_records}
+use Rattle.journal_core.specs.File.{big_endian, fields_of, check_of, content_of, Fits, opened, listed, staged_records, base_of, HoldsAt}
 use Rattle.journal_core.specs.Journal.{one, record_length, room_for}
 use Rattle.journal_core.specs.Steps.{staged}
 use Rattle.journal_core.specs.declared.layout.Format.{Format}
@@ -58,6 +58,15 @@ length-listed rs = omega (arith, room_is rs)
 
 pub room_more : (xs ys : List Record) → room_for (xs ++ ys) ≡ room_for xs + room_for ys
 room_more xs ys = sum_by-append record_length xs ys
+
+-- the first records take no more than all of them
+pub room_first : (n : ℕ) (rs : List Record) → room_for (take n rs) ≤ room_for rs
+room_first n rs = omega (arith, room_more (take n rs) (drop n rs), ap room_for (take-append-drop n rs))
+
+-- the records of a file fit into an area, with the version byte before them and the gate after them
+pub room_held : (file : List ℕ) (area side : ℕ) (rs : List Record) → HoldsAt Second file area side rs → 1 + room_for rs < area
+room_held file area side rs holds =
+    omega (arith, ap length holds.is, length-take area (drop (base_of area side) file), length-append (listed Second rs) (holds.gate ∷ holds.rest), length-listed rs)
 
 pub room_one : (stamp : Stamp) (body : List ℕ) → room_for (one stamp body) ≡ 57 + length body
 room_one stamp body = omega arith

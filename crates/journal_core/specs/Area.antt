@@ -3,6 +3,7 @@ use Rattle.std.specs.Prelude.{◌≡◌, ◌≢◌, ◌⊎◌, ℕ, ◌+◌, ◌
 use Rattle.std.specs.List.{All}
 use Rattle.journal_core.specs.Layout.{version_of, open_gate}
 use Rattle.journal_core.specs.File.{opened, content_of, listed, Fits, LacksRecord, IsBroken}
+use Rattle.journal_core.specs.Journal.{IsNumbered}
 use Rattle.journal_core.specs.declared.area.Next.{Next}
 use Rattle.journal_core.specs.declared.area.Next.TheVariants as next
 use Rattle.journal_core.specs.declared.layout.Format.{Format}
@@ -52,6 +53,12 @@ abbrev pub IsRecordOf : Format → List ℕ → Option Record → Type 0
 IsRecordOf format suffix None = LacksRecord format suffix
 IsRecordOf format suffix (Some entry) = Fits format entry
     × (suffix ≡ content_of format entry ++ drop (length (content_of format entry)) suffix)
+
+-- an open record has a number in its bounds
+abbrev pub IsNumberedNext : Next → Type 0
+IsNumberedNext next.Closed = Unit {0}
+IsNumberedNext next.Broken = Unit {0}
+IsNumberedNext (next.Open entry) = IsNumbered entry
 
 -- of what is left of an area a closed gate takes a byte, and an open record leaves one for the next gate
 abbrev pub IsWithin : Format → ℕ → Next → Type 0

@@ -1,5 +1,6 @@
 -- What the opening of a file returns.
 use Rattle.std.specs.Prelude.{◌≡◌, ℕ, ◌<◌, ◌≤◌, List, length, Result, Ok, Err}
+use Rattle.std.specs.List.{All}
 use Rattle.std.specs.Option.{ForSome}
 use Rattle.base_core.specs.Causes.{Rose}
 use Rattle.disk_core.specs.Disk.{DiskState, IsSettled}
@@ -7,7 +8,7 @@ use Rattle.disk_core.specs.Runs.{LeavesAlone}
 use Rattle.disk_core.specs.declared.disk.Disk.{Ghosts}
 use Rattle.journal_core.specs.Layout.{most_area}
 use Rattle.journal_core.specs.File.{listed, HoldsAt, IsNotAStore, HasVersion, IsDamaged}
-use Rattle.journal_core.specs.Journal.{state_of, area_of, side_of, used_of, Keeps}
+use Rattle.journal_core.specs.Journal.{state_of, area_of, side_of, used_of, IsNumbered, Keeps}
 use Rattle.journal_core.specs.declared.layout.Format.{Format}
 use Rattle.journal_core.specs.declared.layout.Format.TheVariants.{Second}
 use Rattle.journal_core.specs.declared.journal.Journal.{Journal}
@@ -25,10 +26,12 @@ IsCauseOf format file fault.DiskFault = Unit {0}
 IsCauseOf format file fault.Memory = Unit {0}
 
 -- The file held these records, where the journal says, and it is as it was. Over a settled disk the journal keeps them.
+-- Their numbers are in bounds, also if the disk doesn't report its content.
 pub record Opens {D : Type 0} {g : Ghosts D} (before : DiskState) (journal : Journal D g)
     (entries : List Record) : Type 0 where
   pub holds : ForSome before.content (λ file. HoldsAt Second file (area_of journal) (side_of journal) entries)
   pub used : ForSome before.content (λ _. used_of journal ≡ length (listed Second entries))
+  pub numbered : All IsNumbered entries
   pub keeps : IsSettled before → Keeps journal entries
   pub same : (state_of journal).content ≡ before.content
   pub alone : LeavesAlone before (state_of journal)

@@ -6,7 +6,9 @@ ghost use Rattle.disk_core.specs.Runs.{LeavesAlone};
 ghost use Rattle.journal_core.specs.Layout.{record_overhead};
 ghost use Rattle.journal_core.specs.File.{big_endian, check_of, content_of, opened};
 ghost use Rattle.journal_core.specs.Buffer.{IsPieceOf};
-ghost use Rattle.journal_core.specs.Area.{rest_at, Reaches, IsFirstOf, IsRead, Refuses, IsNext, IsRecordOf, IsWithin};
+ghost use Rattle.std.specs.List.{All};
+ghost use Rattle.journal_core.specs.Journal.{IsNumbered};
+ghost use Rattle.journal_core.specs.Area.{rest_at, Reaches, IsFirstOf, IsRead, Refuses, IsNext, IsNumberedNext, IsRecordOf, IsWithin};
 
 use crate::buffer::Buffer;
 use crate::layout::{Format, MOST_NUMBER, OPEN_GATE};
@@ -36,6 +38,7 @@ pub(crate) fn read_area<D: Disk>(
     requires piece { ForSome (D.state disk.old).content (λ file. IsPieceOf file buffer.old) }
     ensures read { IfOk result (λ read. ForSome (D.state disk.old).content (λ file. Reaches file base size
         → IsRead format (rest_at file base size) read.0 read.1)) }
+    ensures numbered { IfOk result (λ read. All IsNumbered read.0) }
     ensures bound { IfOk result (λ read. read.1 < size) }
     ensures refused { IfErr result (λ fault. ForSome (D.state disk.old).content (λ file. Reaches file base size
         → Refuses format base (rest_at file base size) fault)) }
@@ -116,6 +119,7 @@ fn next_record<D: Disk>(
     ensures next { IfOk result (λ next. ForSome (D.state disk.old).content (λ file. Reaches file place left
         → IsNext format (rest_at file place left) next)) }
     ensures bound { IfOk result (λ next. IsWithin format left next) }
+    ensures numbered { IfOk result IsNumberedNext }
     ensures piece { ForSome (D.state disk.old).content (λ file. IsPieceOf file buffer.new) }
     ensures same { OnOk result ((D.state disk.new).content ≡ (D.state disk.old).content) }
     ensures alone { LeavesAlone (D.state disk.old) (D.state disk.new) }
@@ -149,6 +153,7 @@ fn read_record<D: Disk>(
     ensures found { IfOk result (λ found. ForSome (D.state disk.old).content (λ file. Reaches file place left
         → IsRecordOf format (rest_at file place left) found)) }
     ensures bound { IfOk result (λ found. IfSome found (λ entry. length (content_of format entry) < left)) }
+    ensures numbered { IfOk result (λ found. IfSome found IsNumbered) }
     ensures piece { ForSome (D.state disk.old).content (λ file. IsPieceOf file buffer.new) }
     ensures same { OnOk result ((D.state disk.new).content ≡ (D.state disk.old).content) }
     ensures alone { LeavesAlone (D.state disk.old) (D.state disk.new) }
@@ -174,6 +179,7 @@ fn first_record<D: Disk>(
     ensures found { IfOk result (λ found. ForSome (D.state disk.old).content (λ file. Reaches file place left
         → IsRecordOf Format.First (rest_at file place left) found)) }
     ensures bound { IfOk result (λ found. IfSome found (λ entry. length (content_of Format.First entry) < left)) }
+    ensures numbered { IfOk result (λ found. IfSome found IsNumbered) }
     ensures piece { ForSome (D.state disk.old).content (λ file. IsPieceOf file buffer.new) }
     ensures same { OnOk result ((D.state disk.new).content ≡ (D.state disk.old).content) }
     ensures alone { LeavesAlone (D.state disk.old) (D.state disk.new) }
@@ -211,6 +217,7 @@ fn second_record<D: Disk>(
     ensures found { IfOk result (λ found. ForSome (D.state disk.old).content (λ file. Reaches file place left
         → IsRecordOf Format.Second (rest_at file place left) found)) }
     ensures bound { IfOk result (λ found. IfSome found (λ entry. length (content_of Format.Second entry) < left)) }
+    ensures numbered { IfOk result (λ found. IfSome found IsNumbered) }
     ensures piece { ForSome (D.state disk.old).content (λ file. IsPieceOf file buffer.new) }
     ensures same { OnOk result ((D.state disk.new).content ≡ (D.state disk.old).content) }
     ensures alone { LeavesAlone (D.state disk.old) (D.state disk.new) }

@@ -1,10 +1,12 @@
 //! Opening a journal: its file is read once, in pieces, and nothing is written.
 ghost use Rattle.std.specs.Prelude.{◌≡◌, ◌<◌, ◌≤◌, ℕ, IfOk, IfSome, OnOk, IsErrOf, MatchOption};
+ghost use Rattle.std.specs.List.{All};
 ghost use Rattle.std.specs.Option.{ForSome};
 ghost use Rattle.base_core.specs.Causes.{Rose, HasCause};
 ghost use Rattle.disk_core.specs.Runs.{LeavesAlone};
 ghost use Rattle.journal_core.specs.Layout.{most_area};
 ghost use Rattle.journal_core.specs.File.{HasHeader};
+ghost use Rattle.journal_core.specs.Journal.{IsNumbered};
 ghost use Rattle.journal_core.specs.Open.{IsFoundIn, IsInBounds};
 
 use crate::Records;
@@ -68,6 +70,7 @@ pub(crate) fn read_file<D: Disk>(
 ) -> Result<Found, OpenFault>
     ensures meaning { ForSome (D.state disk.old).content (λ file. IsFoundIn format file result) }
     ensures bounds { IfOk result IsInBounds }
+    ensures numbered { IfOk result (λ found. All IsNumbered found.entries) }
     ensures same { OnOk result ((D.state disk.new).content ≡ (D.state disk.old).content) }
     ensures alone { LeavesAlone (D.state disk.old) (D.state disk.new) }
     ensures fault { IsErrOf result OpenFault.DiskFault → Rose (D.state disk.old).faults (D.state disk.new).faults }

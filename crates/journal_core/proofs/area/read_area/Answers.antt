@@ -3,8 +3,9 @@ use Rattle.std.proofs.lemmas.List.Elements.{All-push, All-same}
 use Rattle.disk_core.proofs.RunLaws.{alone_then}
 use Rattle.journal_core.specs.File.{opened, Fits}
 use Rattle.journal_core.specs.Area.{rest_at, Reaches, IsNext}
+use Rattle.journal_core.specs.Journal.{IsNumbered}
 use Rattle.journal_core.specs.declared.area.Next.TheVariants.{Open}
-use Rattle.journal_core.proofs.Reading.{reaches_next, area_more, count_more, next_is, within_is}
+use Rattle.journal_core.proofs.Reading.{reaches_next, area_more, count_more, next_is, next_numbered, within_is}
 use Rattle.journal_core.proofs.area.read_area.Goals as goal
 
 pub records-preserved : goal.records-preserved
@@ -29,6 +30,7 @@ records-preserved g c =
       inside = λ file is reaches. area_more format file base size used n _ _ entry fits more long (inv.inside file is reaches) (next file is reaches).1;
       count = λ file is reaches. count_more format used n _ _ entry more long (inv.count file is reaches);
       fits = λ file is reaches. All-same (Fits format) _ _ more (All-push (Fits format) _ entry (inv.fits file is reaches) (next file is reaches).0);
+      numbered = All-same IsNumbered _ _ more (All-push IsNumbered _ entry inv.numbered (next_numbered c.in_ok-next_record.field-0 (Open entry) c.in-Open.is c.in_ok-next_record.ensures.numbered));
       some = inr (omega (arith, bound, long));
       piece = λ file is. c.in_ok-next_record.ensures.piece file (inv.same ∙ is);
       same = c.in_ok-next_record.ensures.same ∙ inv.same;
