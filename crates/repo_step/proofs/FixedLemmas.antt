@@ -7,7 +7,7 @@ use Rattle.doip_message.specs.Asked.{Content, no_content, one_value, parts}
 use Rattle.doip_message.specs.Reply.{Replied, reply_text, done}
 use Rattle.doip_message.specs.Fixed.{memory_reply, disk_reply, closed_reply, framing_reply}
 use Rattle.repo_step.specs.declared.refusal.Refusal.{Refusal}
-use Rattle.repo_step.specs.declared.refusal.Refusal.TheVariants.{Invalid, AuthenticationRefused, OperationUnknown, TargetUnknown, NotOffered, AuthenticationNeeded, NotPermitted, ArgumentElement, BadInput, TypeMissing, TypeUnknown, NoBytes, OtherId, OtherType, InUse, CounterSpent, Declined, TooManyObjects, LastRevision, TooManyChanges, AreaFull}
+use Rattle.repo_step.specs.declared.refusal.Refusal.TheVariants.{Invalid, AuthenticationRefused, OperationUnknown, TargetUnknown, NotOffered, AuthenticationNeeded, NotPermitted, ArgumentElement, BadInput, TypeMissing, TypeUnknown, NoBytes, OtherId, OtherType, InUse, CounterSpent, ByExtension, TooManyObjects, LastRevision, TooManyChanges, AreaFull}
 use Rattle.repo_step.specs.Refusals.{refused}
 use Rattle.repo_step.specs.Effect.{Attempt}
 use Rattle.repo_step.specs.Step.{plan_with}
@@ -112,8 +112,8 @@ refusal_is_none id InUse =
     by_first InUse 105 refl (λ m. refl) (omega arith) (omega arith) (omega arith) (omega arith) id
 refusal_is_none id CounterSpent =
     by_first CounterSpent 108 refl (λ m. refl) (omega arith) (omega arith) (omega arith) (omega arith) id
-refusal_is_none id (Declined reason) =
-    by_first (Declined reason) 101 refl (λ m. refl) (omega arith) (omega arith) (omega arith) (omega arith) id
+refusal_is_none id (ByExtension reason) =
+    by_first (ByExtension reason) 101 refl (λ m. refl) (omega arith) (omega arith) (omega arith) (omega arith) id
 refusal_is_none id TooManyObjects =
     by_first TooManyObjects 108 refl (λ m. refl) (omega arith) (omega arith) (omega arith) (omega arith) id
 refusal_is_none id LastRevision =

@@ -14,7 +14,7 @@ use Rattle.dobj_draft.specs.declared.draft.ObjectField.TheVariants as fields
 use Rattle.dobj_draft.specs.declared.draft.ObjectFault.{ObjectFault}
 use Rattle.dobj_draft.specs.declared.draft.ObjectFault.TheVariants as faults
 use Rattle.repo_step.specs.declared.refusal.Refusal.{Refusal}
-use Rattle.repo_step.specs.declared.refusal.Refusal.TheVariants.{Invalid, AuthenticationRefused, OperationUnknown, TargetUnknown, NotOffered, AuthenticationNeeded, NotPermitted, ArgumentElement, BadInput, TypeMissing, TypeUnknown, NoBytes, OtherId, OtherType, InUse, CounterSpent, Declined, TooManyObjects, LastRevision, TooManyChanges, AreaFull}
+use Rattle.repo_step.specs.declared.refusal.Refusal.TheVariants.{Invalid, AuthenticationRefused, OperationUnknown, TargetUnknown, NotOffered, AuthenticationNeeded, NotPermitted, ArgumentElement, BadInput, TypeMissing, TypeUnknown, NoBytes, OtherId, OtherType, InUse, CounterSpent, ByExtension, TooManyObjects, LastRevision, TooManyChanges, AreaFull}
 
 -- which property of a request is wrong
 abbrev pub field_message : FieldName → List ℕ
@@ -82,7 +82,7 @@ refusal_status OtherId = statuses.Invalid
 refusal_status OtherType = statuses.Invalid
 refusal_status InUse = statuses.InUse
 refusal_status CounterSpent = statuses.Invalid
-refusal_status (Declined reason) = statuses.Invalid
+refusal_status (ByExtension reason) = statuses.Invalid
 refusal_status TooManyObjects = statuses.Invalid
 refusal_status LastRevision = statuses.Invalid
 refusal_status TooManyChanges = statuses.Invalid
@@ -106,7 +106,7 @@ refusal_message OtherId = codes "input: id"
 refusal_message OtherType = codes "type cannot change"
 refusal_message InUse = codes "identifier in use"
 refusal_message CounterSpent = codes "limit: counter"
-refusal_message (Declined reason) = codes "extension: " ++ reason
+refusal_message (ByExtension reason) = codes "extension: " ++ reason
 refusal_message TooManyObjects = codes "limit: objects"
 refusal_message LastRevision = codes "limit: revision"
 refusal_message TooManyChanges = codes "limit: changes"
@@ -123,6 +123,6 @@ HasWords (Invalid why) words = Unit {0}
 HasWords (BadInput fault) words = Unit {0}
 HasWords (TypeUnknown name) words = Unit {0}
 HasWords (NoBytes id) words = Unit {0}
-HasWords (Declined reason) words = Unit {0}
+HasWords (ByExtension reason) words = Unit {0}
 HasWords (AreaFull used asked) words = Unit {0}
 HasWords refusal words = words ≡ refusal_message refusal

@@ -3,6 +3,7 @@ ghost use Rattle.std.specs.Prelude.{◌≡◌};
 
 use crate::{Brought, Outcome};
 use doip_segment::Message;
+use journal_core::Moment;
 use std::marker::Model;
 use std::snapshot::Snapshot;
 
@@ -13,7 +14,7 @@ pub struct Entry {
     session: u64,
     message: Snapshot<Message>,
     outcome: Outcome,
-    moment: u64,
+    moment: Moment,
     brought: Brought,
 }
 
@@ -27,7 +28,7 @@ impl Model for Entry {
       session = e.session;
       message = e.message.value.segments;
       outcome = e.outcome;
-      moment = e.moment;
+      moment = e.moment.number;
       brought = e.brought;
     } };
 }
@@ -39,7 +40,7 @@ impl Entry {
         session: u64,
         message: &Message,
         outcome: Outcome,
-        moment: u64,
+        moment: Moment,
         brought: Brought,
     ) -> Entry
         ensures { result ≡ record {
@@ -47,7 +48,7 @@ impl Entry {
           session = session;
           message = message.now.segments;
           outcome = outcome;
-          moment = moment;
+          moment = moment.number;
           brought = brought;
         } }
     {

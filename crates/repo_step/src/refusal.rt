@@ -54,7 +54,7 @@ pub enum Refusal {
     /// No number is left for an identifier.
     CounterSpent,
     /// The extension refuses, for this reason.
-    Declined {
+    ByExtension {
         reason: Str,
     },
     /// There are as many objects as there may be.
@@ -127,7 +127,7 @@ impl Refusal {
             Refusal::BadInput { fault } => input_message(alloc, fault),
             Refusal::TypeUnknown { name } => joined(alloc, "type unknown: ", name.get()),
             Refusal::NoBytes { id } => joined(alloc, "input: no bytes for ", id.get()),
-            Refusal::Declined { reason } => joined(alloc, "extension: ", reason.get()),
+            Refusal::ByExtension { reason } => joined(alloc, "extension: ", reason.get()),
             Refusal::AreaFull { used, asked } => {
                 format!(in alloc; "limit: area, {} used, {} asked", *used, *asked)
             }

@@ -6,7 +6,7 @@ use doip_json::{Bytes, Json, JsonMap, Str, read};
 use doip_message::MEMORY_TEXT;
 use doip_segment::{Decoder, Limits, Message};
 use ext_ops::Extensions;
-use journal_core::{Room, Stamp};
+use journal_core::{Moment, Room, Stamp};
 use record_core::Change;
 use repo_state::{Replay, Table};
 use std::alloc::{AllocError, Global};
@@ -298,9 +298,9 @@ fn a_history_keeps_entries_of_any_session(rt: HostRuntime) -> Result<(), Fail> {
     let message = Message::empty(rt.alloc());
     let mut past = Past::empty();
     let first = Brought { time: 0 };
-    past.add(Entry::new(0, 0, &message, Outcome::Done, 0, first));
+    past.add(Entry::new(0, 0, &message, Outcome::Done, Moment::none(), first));
     let second = Brought { time: 9 };
-    past.add(Entry::new(3, 1, &message, Outcome::NoMemory, 5, second));
+    past.add(Entry::new(3, 1, &message, Outcome::NoMemory, Moment::none(), second));
     Ok(())
 }
 

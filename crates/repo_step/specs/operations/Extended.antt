@@ -6,7 +6,7 @@ use Rattle.acl_core.specs.declared.caller.Caller.{Caller}
 use Rattle.acl_core.specs.declared.rights.Right.TheVariants.{Read}
 use Rattle.ext_ops.specs.declared.code.ExtCode.{ExtCode}
 use Rattle.ext_ops.specs.Extended.{ext}
-use Rattle.repo_step.specs.declared.refusal.Refusal.TheVariants.{Declined}
+use Rattle.repo_step.specs.declared.refusal.Refusal.TheVariants.{ByExtension}
 use Rattle.repo_step.specs.Setting.{State}
 use Rattle.repo_step.specs.Chain.{unless}
 use Rattle.repo_step.specs.Effect.{Attempt, shows}
@@ -15,7 +15,7 @@ use Rattle.repo_step.specs.Rights.{may, no_right}
 -- an answer is shown, and a refusal refused
 abbrev pub answered : Result Value (List ℕ) → Attempt
 answered (Ok v) = shows v
-answered (Err reason) = Err (Declined reason)
+answered (Err reason) = Err (ByExtension reason)
 
 -- The right to read, and then the extension's answer.
 abbrev pub extended : ExtCode → State → Caller → Entries → ObjectValue → Attempt

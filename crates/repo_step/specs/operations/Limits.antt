@@ -8,10 +8,11 @@ use Rattle.repo_step.specs.declared.refusal.Refusal.TheVariants.{TooManyChanges,
 use Rattle.repo_step.specs.Setting.{State}
 use Rattle.repo_step.specs.Chain.{unless, clear}
 
--- the most objects, and the last number of a change
+-- the most objects
 abbrev pub most_objects : ℕ
 most_objects = 100000
 
+-- the last number of a change
 abbrev pub last_number : ℕ
 last_number = 2 ^ 48
 

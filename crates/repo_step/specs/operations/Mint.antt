@@ -32,6 +32,7 @@ pub record NewId : Type 0 where
   pub id : List ℕ
   pub counter : Option ℕ
 
+-- this identifier, and this counter afterwards
 abbrev pub named_as : List ℕ → Option ℕ → NewId
 named_as id counter = record { id = id; counter = counter }
 

@@ -13,6 +13,7 @@ reserved_names =
     codes "0.DOIP/Op.Hello" ∷ codes "0.DOIP/Op.ListOperations" ∷ codes "0.DOIP/Op.Create" ∷ codes "0.DOIP/Op.Retrieve"
     ∷ codes "0.DOIP/Op.Update" ∷ codes "0.DOIP/Op.Delete" ∷ codes "0.DOIP/Op.Search" ∷ codes "ext/Op.Changes" ∷ []
 
+-- an identifier under which no extension is reached
 abbrev pub is_reserved : List ℕ → Bool
 is_reserved name = list_any (is_text name) reserved_names
 

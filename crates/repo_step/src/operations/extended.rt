@@ -47,6 +47,6 @@ fn answered<'t>(answer: ExtAnswer) -> Result<Made<'t>, Stop>
 {
     match answer {
         ExtAnswer::Answer(value) => Ok(Made::showing(Shown::Value(value))),
-        ExtAnswer::Refused(reason) => Err(Stop::Refused(Refusal::Declined { reason })),
+        ExtAnswer::Refused(reason) => Err(Stop::Refused(Refusal::ByExtension { reason })),
     }
 }
