@@ -5,6 +5,7 @@
 ghost use Rattle.std.specs.Prelude.{◌≡◌, ◌≢◌, IfOk};
 ghost use Rattle.dobj_model.specs.Name.{IsName};
 ghost use Rattle.std.specs.IoError.{error_kind};
+ghost use Rattle.repo_top.specs.Commands.{IsWords};
 
 mod clock;
 mod disk;
@@ -22,10 +23,12 @@ mod tests;
 use crate::host::RealHost;
 use crate::note::{file_name, line_of};
 use crate::offered::{count_keys, digest_element, pick_value, trim_content};
+use crate::sink::StdSink;
+use command_line::{ArgumentText, Words};
 use dobj_model::{Id, Object};
 use doip_json::{Json, JsonMap, Str};
 use ext_ops::{ExtCode, ExtFault, Extension, Extensions, HookCode, WriteHook};
-use repo_top::{Note, Ran, Words, run_plain};
+use repo_top::{Note, Ran, run_plain};
 use std::alloc::{AllocError, Global};
 use std::io::ErrorKind;
 use std::process::ExitCode;
@@ -46,7 +49,7 @@ fn read_invocation(rt: &HostRuntime, alloc: Global) -> io::Result<Invocation> {
         if number == 0 {
             path = Str::from_string(argument);
         } else {
-            arguments.push(Str::from_string(argument))?;
+            arguments.push(ArgumentText::from_string(argument))?;
         }
     }
     Ok(Invocation { path, arguments })
@@ -59,16 +62,22 @@ fn print_note(rt: &HostRuntime, program: &str, note: &Note, cause: Option<&io::E
     }
 }
 
+// What is said of an argument that isn't text.
+const NOT_TEXT: &str = "error: an argument is not valid UTF-8";
+
 // The status of a run whose arguments could not be had, and what there is to note: out of memory, or they aren't text.
-fn status_without_arguments(error: &io::Error) -> (u8, Note)
+fn status_without_arguments(alloc: Global, error: &io::Error) -> (u8, Note)
     ensures memory { error_kind error.now ≡ ErrorKind.OutOfMemory → (result.0 ≡ 4) × (result.1 ≡ Note.Memory) }
-    ensures others { error_kind error.now ≢ ErrorKind.OutOfMemory → (result.0 ≡ 2) × (result.1 ≡ Note.Words) }
+    ensures others { error_kind error.now ≢ ErrorKind.OutOfMemory → (result.0 ≡ 2) × IsWords result.1 }
 {
     if error.kind() == ErrorKind::OutOfMemory {
-        (4, Note::Memory)
-    } else {
-        (2, Note::Words)
+        return (4, Note::Memory);
     }
+    let text = match String::from_str(alloc, NOT_TEXT) {
+        Ok(text) => text,
+        Err(AllocError) => String::new(alloc),
+    };
+    (2, Note::Words { text })
 }
 
 // The identifier of an operation or the name of a hook.
@@ -130,10 +139,13 @@ fn run_extended(
 // What the system said of the fault behind a note: the words of the object that had it.
 fn cause_of<'a>(
     host: &'a RealHost<'_, HostRuntime>,
+    out: &'a StdSink,
     ran: &'a Ran<RealHost<'_, HostRuntime>>,
 ) -> Option<&'a io::Error> {
     match &ran.note {
         Note::Host => host.last_fault(),
+        Note::Disk { .. } => ran.disk.as_ref()?.last_fault(),
+        Note::Out => out.last_fault(),
         Note::End(_) => ran.link.as_ref()?.last_fault(),
         _ => None,
     }
@@ -142,9 +154,16 @@ fn cause_of<'a>(
 // Runs the command over the real host, and prints what there is to note: the status.
 fn run(rt: &HostRuntime, alloc: Global, invocation: &Invocation, extensions: Extensions) -> u8 {
     let mut host = RealHost::new(rt, alloc, rt.stdin(), rt.stdout());
-    let ran = run_plain(alloc, &invocation.arguments, &mut host, extensions);
+    let mut out = StdSink::new(rt.stdout());
+    let ran = run_plain(
+        alloc,
+        &invocation.arguments,
+        &mut host,
+        &mut out,
+        extensions,
+    );
     let program = file_name(invocation.path.get());
-    print_note(rt, program, &ran.note, cause_of(&host, &ran));
+    print_note(rt, program, &ran.note, cause_of(&host, &out, &ran));
     ran.status
 }
 
@@ -153,7 +172,7 @@ fn main(rt: HostRuntime) -> ExitCode {
     let invocation = match read_invocation(&rt, alloc) {
         Ok(invocation) => invocation,
         Err(error) => {
-            let (status, note) = status_without_arguments(&error);
+            let (status, note) = status_without_arguments(alloc, &error);
             print_note(&rt, "zenkawi", &note, None);
             return ExitCode::from(status);
         }

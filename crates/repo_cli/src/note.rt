@@ -1,11 +1,9 @@
 //! The line that a note is printed as.
 use doip_segment::Reason;
+use repo_store::StoreFault;
 use repo_top::{Note, SessionEnd};
 use std::fmt;
 use std::io::Error;
-
-// What follows `answer` on a command line.
-const ANSWER: &str = "SERVICE [--address A] [--port N] [--accounts FILE] [--request N]";
 
 /// The line of a note: the name of the program's file, what happened, where there is something what to do, and what the
 /// system said of the fault behind it.
@@ -67,6 +65,24 @@ fn write_end<W: fmt::Write>(end: SessionEnd, f: &mut fmt::Formatter<W>) -> fmt::
     }
 }
 
+// Why a file is not opened as a store's.
+fn write_store_fault<W: fmt::Write>(fault: &StoreFault, f: &mut fmt::Formatter<W>) -> fmt::Result {
+    match fault {
+        StoreFault::NotAStore => f.write_str("the file is no store; `init FILE` makes one"),
+        StoreFault::Version { byte } => write!(
+            f,
+            "the file is a store of format {byte}; this program reads format 2"
+        ),
+        StoreFault::Damaged { place } => write!(f, "the file is damaged at byte {place}"),
+        StoreFault::Unsound { id } => {
+            let id = id.get();
+            write!(f, "the object {id} of the file is not sound")
+        }
+        StoreFault::DiskFault => f.write_str("reading the store's file failed"),
+        StoreFault::Memory => f.write_str("out of memory"),
+    }
+}
+
 impl fmt::Display for Line<'_> {
     fn fmt<W: fmt::Write>(&self, f: &mut fmt::Formatter<W>) -> fmt::Result {
         write!(f, "{}: ", self.program)?;
@@ -83,19 +99,20 @@ impl Line<'_> {
     fn write_note<W: fmt::Write>(&self, f: &mut fmt::Formatter<W>) -> fmt::Result {
         match self.note {
             Note::Nothing => Ok(()),
-            Note::Words => write!(
-                f,
-                "invalid command line; usage: {} answer {ANSWER}",
-                self.program
-            ),
-            Note::Host => f.write_str(
-                "the accounts file, or standard input and output, could not be opened",
-            ),
+            Note::Words { text } => f.write_str(text.trim_end()),
+            Note::Host => f.write_str("a file, or standard input and output, could not be opened"),
             Note::File { path } => write!(
                 f,
                 "{} is no accounts file; docs/FORMATS.md says what one is",
                 path.get()
             ),
+            Note::Disk { .. } => f.write_str("reading or writing the store's file failed"),
+            Note::Store(fault) => write_store_fault(fault, f),
+            Note::NotEmpty { length } => write!(
+                f,
+                "the file has {length} bytes; a store is made in a new or an empty file"
+            ),
+            Note::Out => f.write_str("writing standard output failed"),
             Note::Memory => f.write_str("out of memory"),
             Note::End(end) => write_end(*end, f),
         }

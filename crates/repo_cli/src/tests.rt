@@ -40,7 +40,7 @@ fn a_line_ends_in_the_words_of_the_system(rt: HostRuntime) -> Result<(), Fail> {
     let text = line_text(rt.alloc(), &Note::Host, Some(&cause))?;
     assert_eq!(rt;
         text.as_str(),
-        "zenkawi: the accounts file, or standard input and output, could not be opened: Address already in use (os error 98)"
+        "zenkawi: a file, or standard input and output, could not be opened: Address already in use (os error 98)"
     );
     let text = line_text(rt.alloc(), &Note::Memory, None)?;
     assert_eq!(rt; text.as_str(), "zenkawi: out of memory");

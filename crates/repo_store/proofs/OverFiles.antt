@@ -13,7 +13,7 @@ use Rattle.repo_step.specs.declared.outcome.Outcome.{Outcome}
 use Rattle.repo_step.specs.declared.outcome.Outcome.TheVariants.{Done, NoMemory, DiskFault, Closed}
 use Rattle.repo_step.specs.Setting.{Setting, State, state}
 use Rattle.repo_step.specs.Step.{after_change, room_after}
-use Rattle.repo_step.specs.History.{Entry, IsWhole, after, state_of as state_after_all, state_with, step_of}
+use Rattle.repo_step.specs.History.{Entry, IsWhole, MomentsFrom, after, state_of as state_after_all, state_with, step_of}
 use Rattle.repo_store.specs.Saved.{disk_in, room_in, left_in, faults_in, moment_in, Reports}
 use Rattle.repo_store.specs.Store.{Seen, seen, state_in}
 use Rattle.repo_store.specs.Survival.{Survives}
@@ -51,6 +51,11 @@ no_moments : (n : ℕ) (es : List Entry) → n ≡ 0 → AllByRecursion (λ e. e
 no_moments n [] zero within = tt
 no_moments n (e ∷ es) zero within = (omega (arith, within.0, zero), no_moments n es zero within.1)
 
+-- what holds from a moment on holds from an earlier one
+sooner : (early late : ℕ) (es : List Entry) → early ≤ late → MomentsFrom (λ e. e) late es → MomentsFrom (λ e. e) early es
+sooner early late [] low from = tt
+sooner early late (e ∷ es) low from = (omega (arith, low, from.0), from.1)
+
 -- turns without a disk meet no disk fault
 whole_outcome : (o : Outcome) → IsWhole o → o ≡ DiskFault → ⊥
 whole_outcome Done whole is = cc
@@ -58,7 +63,7 @@ whole_outcome NoMemory whole is = cc
 whole_outcome DiskFault whole is = whole
 whole_outcome Closed whole is = whole
 
-whole_fault : (es : List Entry) → AllByRecursion (λ e. IsWhole e.outcome) es → HasFault es → ⊥
+pub whole_fault : (es : List Entry) → AllByRecursion (λ e. IsWhole e.outcome) es → HasFault es → ⊥
 whole_fault [] whole fault = fault
 whole_fault (e ∷ es) whole fault = ⊎_elim (λ (h : e.outcome ≡ DiskFault). whole_outcome e.outcome whole.0 h) (λ (h : HasFault es). whole_fault es whole.1 h) fault
 
@@ -108,6 +113,8 @@ module _ {D : Type 0} (g : Ghosts D) where
                 (λ left. subst (λ (o : Option (Journal D g)). left_in o m image) is (past.0 left)),
                 (λ left. past.1 (subst (λ (o : Option (Journal D g)). left_in o m image) (sym is) left)),
               );
+          moments = sooner (g.state start).moment (moment_in first.journal) es opened.alone.clock leaves.moments;
+          within = subst (λ (n : ℕ). AllByRecursion (λ (e : Entry). e.moment ≤ n) es) moments leaves.within;
           fault = λ fault.
               let cause = (open_runs g setting first last es refl r).cause fault in
               (omega (arith, cause.0, opened.alone.count, faults), cause.1 ∙ ap (λ (n : ℕ). Some (min n (2 ^ 64 - 1))) faults);

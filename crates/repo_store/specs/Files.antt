@@ -12,7 +12,7 @@ use Rattle.journal_core.specs.declared.layout.Format.TheVariants.{Second}
 use Rattle.journal_core.specs.declared.records.Record.{Record}
 use Rattle.repo_state.specs.Contents.{Contents}
 use Rattle.repo_step.specs.Setting.{Setting, State, state}
-use Rattle.repo_step.specs.History.{Entry, IsWhole}
+use Rattle.repo_step.specs.History.{Entry, IsWhole, MomentsFrom}
 use Rattle.repo_store.specs.Law.{HasFault, IsTurn}
 use Rattle.repo_store.specs.Opening.{OpensFile}
 use Rattle.repo_store.specs.Saved.{disk_in, room_in}
@@ -48,12 +48,15 @@ turns_taken setting first history closed =
     record { setting = setting; first = first; history = history; closed = closed }
 
 -- From the disk that a store was opened over to the one that it hands back: the first state is that of the file, and each
--- crash leaves a prefix of the changes. The store is closed exactly if a turn met a disk fault, which the disk has counted.
+-- crash leaves a prefix of the changes. The moments of the turns are of this disk, between the two, and never fall. The
+-- store is closed exactly if a turn met a disk fault, which the disk has counted.
 pub record RanOver (start last : DiskState) (turns : TurnsTaken) : Type 0 where
   pub stands : ForSome start.content (λ file. IsStateOf file turns.first)
   pub survives : IsSettled start
       → ForSome last.content (λ _. SurvivesOn last start.moment turns.setting turns.first turns.history)
   pub same : IsSettled start → ForSome last.content (λ _. SamePast start last)
+  pub moments : MomentsFrom (λ e. e) start.moment turns.history
+  pub within : AllByRecursion (λ e. e.moment ≤ last.moment) turns.history
   pub fault : HasFault turns.history
       → Rose start.faults last.faults × (turns.closed ≡ Some (min last.faults (2 ^ 64 - 1)))
   pub closed : IsSome turns.closed → HasFault turns.history

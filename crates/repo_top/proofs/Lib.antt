@@ -1,6 +1,7 @@
-pub mod Numbers
-pub mod CommandLemmas
 pub mod SessionLemmas
 pub mod LawLemmas
 pub mod FileLemmas
-pub mod RunLemmas
+pub mod StartLemmas
+pub mod AnswerLemmas
+pub mod Ends
+pub mod Completeness

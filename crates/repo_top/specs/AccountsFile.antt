@@ -31,11 +31,12 @@ abbrev pub AreAccounts : Option (List ℕ) → Option Holdings → Known → Typ
 AreAccounts None holds accounts = accounts ≡ no_accounts
 AreAccounts (Some path) holds accounts = WasRead path holds (Some accounts)
 
--- Why there is no session: the host's count of faults rose, the file at the path is no accounts file, or out of memory.
-abbrev pub HasReason : Option (List ℕ) → Option Holdings → ℕ → ℕ → NoSession → Type 0
-HasReason path holds before now faults.Host = Rose before now
-HasReason path holds before now (faults.File named) = (path ≡ Some named) × WasRead named holds None
-HasReason path holds before now faults.Memory = Unit {0}
+-- Why there are no accounts: the host's count of faults rose, the file at the path is no accounts file, or out of memory.
+abbrev pub HasFileReason : Option (List ℕ) → Option Holdings → ℕ → ℕ → NoSession → Type 0
+HasFileReason path holds before now faults.Host = Rose before now
+HasFileReason path holds before now (faults.File named) = (path ≡ Some named) × WasRead named holds None
+HasFileReason path holds before now faults.Memory = Unit {0}
+HasFileReason path holds before now other = ⊥
 
 -- no call was made, or the file at the path was asked for, if there is a path
 abbrev pub AsksOnce : Option (List ℕ) → CallCounts → CallCounts → Type 0

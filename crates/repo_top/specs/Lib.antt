@@ -1,5 +1,7 @@
-pub mod Command
+pub mod Run
 pub mod AccountsFile
 pub mod Session
-pub mod Run
-pub mod Taking
+pub mod Start
+pub mod Answer
+pub mod Files
+pub mod Commands

@@ -1,7 +1,7 @@
 //! The accounts of a repository.
 ghost use Rattle.std.specs.Prelude.{◌≡◌, Some, IfOk, IfErr};
 ghost use Rattle.std.specs.Option.{option_copied};
-ghost use Rattle.repo_top.specs.AccountsFile.{AreAccounts, AsksForFile, HasReason};
+ghost use Rattle.repo_top.specs.AccountsFile.{AreAccounts, AsksForFile, HasFileReason};
 
 use crate::NoSession;
 use acl_core::{Accounts, AccountsFault, accounts_of};
@@ -20,7 +20,7 @@ pub(crate) fn accounts_in<H: Host>(
 ) -> Result<Accounts, NoSession>
     ensures accounts { IfOk result
         (AreAccounts (option_copied path.entry) (H.state host.old).holds) }
-    ensures cause { IfErr result (HasReason (option_copied path.entry) (H.state host.old).holds
+    ensures cause { IfErr result (HasFileReason (option_copied path.entry) (H.state host.old).holds
         (H.state host.old).faults (H.state host.new).faults) }
     ensures host { AsksForFile (option_copied path.entry) (H.state host.old) (H.state host.new) }
 {
@@ -33,7 +33,7 @@ pub(crate) fn accounts_in<H: Host>(
 // The accounts that the file at the path lists. The path is copied first, so that a file that is refused is named.
 fn accounts_at<H: Host>(alloc: Global, path: &str, host: &mut H) -> Result<Accounts, NoSession>
     ensures accounts { IfOk result (AreAccounts (Some path.now) (H.state host.old).holds) }
-    ensures cause { IfErr result (HasReason (Some path.now) (H.state host.old).holds
+    ensures cause { IfErr result (HasFileReason (Some path.now) (H.state host.old).holds
         (H.state host.old).faults (H.state host.new).faults) }
     ensures host { AsksForFile (Some path.now) (H.state host.old) (H.state host.new) }
 {

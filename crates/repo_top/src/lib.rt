@@ -2,21 +2,27 @@
 //!
 //! `run_plain` is the top call. It takes the arguments and the host, and returns the exit status, what there is to
 //! note, and the objects that the host handed out. `main` makes a real host and calls it. Read `run_plain` first, and
-//! its clause `session`, which says what one session reads, replies and writes; `specs/Run.antt` has its definitions.
+//! its clause `run`, which says what each command asks, leaves and prints: `specs/Commands.antt` has its definitions, over
+//! those of `specs/Answer.antt` and `specs/Files.antt`.
 //!
 //! A contract sees of `Words` the list of the arguments, and of `Ran::past` the list of the entries of the history.
 #![tactic(auto)]
 
 mod accounts;
 mod alone;
-mod command;
+mod answer;
+mod check;
+mod file_run;
+mod init;
 mod laws;
 mod outcome;
+mod printing;
 mod run;
+mod start;
 #[cfg(test)]
 mod tests;
 
-pub use command::Words;
+pub use command_line::Words;
 pub use laws::outcomes_give_the_bytes;
 pub use outcome::{NoSession, Note, Ran};
 pub use repo_step::Past;

@@ -2,6 +2,7 @@
 use doip_json::Str;
 use link_core::Host;
 use repo_step::Past;
+use repo_store::StoreFault;
 use session_core::SessionEnd;
 use std::snapshot::Snapshot;
 
@@ -15,6 +16,13 @@ pub enum NoSession {
         /// Its path.
         path: Str,
     },
+    /// The disk failed as the file of the store was read.
+    Disk {
+        /// Its count of faults by then.
+        count: u64,
+    },
+    /// The file of the store is refused for what its bytes say.
+    Store(StoreFault),
     /// Out of memory.
     Memory,
 }
@@ -25,7 +33,10 @@ pub enum Note {
     /// Nothing.
     Nothing,
     /// The command line is invalid.
-    Words,
+    Words {
+        /// What is wrong with it, and the usage of the command.
+        text: String,
+    },
     /// The host failed.
     Host,
     /// The file of the accounts isn't one.
@@ -33,6 +44,20 @@ pub enum Note {
         /// Its path.
         path: Str,
     },
+    /// The disk failed.
+    Disk {
+        /// Its count of faults by then.
+        count: u64,
+    },
+    /// The file of the store is refused for what its bytes say.
+    Store(StoreFault),
+    /// The file that was to be made has bytes.
+    NotEmpty {
+        /// How many.
+        length: u64,
+    },
+    /// What the command prints could not be written.
+    Out,
     /// Out of memory.
     Memory,
     /// The session ended inside a message, at bytes that are no message, or at a fault of its link.
@@ -43,6 +68,7 @@ pub enum Note {
 #[derive(Drop)]
 pub struct Ran<H: Host>
 where
+    H::Disk: Drop,
     H::Link: Drop,
     H::Clock: Drop,
 {
@@ -50,6 +76,10 @@ where
     pub status: u8,
     /// What there is to note.
     pub note: Note,
+    /// The disk as the host handed it out, for contracts alone: it has no bytes.
+    pub opened: Option<Snapshot<H::Disk>>,
+    /// The disk that the host handed out, if it did.
+    pub disk: Option<H::Disk>,
     /// The link as the host handed it out, for contracts alone: it has no bytes.
     pub begun: Option<Snapshot<H::Link>>,
     /// The link that the host handed out, if it did.

@@ -1,53 +1,55 @@
-use Rattle.std.proofs.Common.{[], ◌∷◌, ◌++◌, None, ap, ◌∙◌}
+use Rattle.std.proofs.Common.{◌≡◌, List, [], ◌∷◌, ◌++◌, ap, sym, ◌∙◌, subst}
 use Rattle.doip_message.specs.Pairs.{pair}
-use Rattle.doip_message.specs.Reply.{reply_text}
+use Rattle.doip_segment.specs.Segments.{Segment}
 use Rattle.session_core.specs.Texts.{reply_bytes}
 use Rattle.repo_step.specs.History.{session_pairs}
-use Rattle.repo_step.specs.Setting.{state}
-use Rattle.repo_step.specs.Step.{step}
-use Rattle.repo_top.specs.Session.{first_state, setting_with, turn_of}
-use Rattle.repo_top.proofs.SessionLemmas.{seat, same_seat, ready_at, ready_more, pairs_at, pairs_more_by, on_ok, on_err}
+use Rattle.repo_store.specs.Store.{Turns, entry_of, planner_in, seen_of, state_in, text_with}
+use Rattle.repo_top.proofs.SessionLemmas.{pairs_at, pairs_with, ready_at, ready_more, same_seat, seat}
 use Rattle.repo_top.proofs.alone.AloneResponder.respond.Goals as goal
 
 pub returns-clause-ready : goal.returns-clause-ready
 returns-clause-ready g c =
     let me = c.args.self.now in
     let now = c.record.new.self in
-    let setting = setting_with me.config.now me.extensions.now.operations me.extensions.now.hooks in
-    let message = c.message-message.result.now.segments in
-    let outcome = c.outcome_of-outcome.result in
-    ready_at (seat me.config.now me.extensions.now.operations me.extensions.now.hooks me.lane me.session)
-    (seat now.config.now now.extensions.now.operations now.extensions.now.hooks now.lane now.session)
-    c.try_turn-made.new.table.contents now.table.contents (g.C.Clock.given c.now.new.self) (g.C.Clock.given now.clock)
-    (me.past ++ turn_of me.lane me.session message outcome (record { time = c.now.result }) ∷ []) now.past
-    (same_seat _ _ _ _ _ _ _ _ _ _ c.record.ensures.config c.record.ensures.operations c.record.ensures.hooks
-    c.record.ensures.session.0 c.record.ensures.session.1)
-    (ap (λ t. t.contents) c.record.ensures.table) (ap g.C.Clock.given c.record.ensures.clock) c.record.ensures.past
-    (ready_more setting me.lane me.session me.past message outcome (record { time = c.now.result })
-    c.outcome_of-outcome.ensures.whole me.table.contents
-    c.try_turn-made.new.table.contents (g.C.Clock.given me.clock) (g.C.Clock.given c.now.new.self) c.requires.ready
-    c.now.ensures (λ d. on_ok c.try_turn-made.result _ c.try_turn-made.ensures.change (c.outcome_of-outcome.ensures.done d))
-    (λ m. on_err c.try_turn-made.result _ c.try_turn-made.ensures.stays (c.outcome_of-outcome.ensures.memory m)))
+    let turned = c.turn-told.new.self in
+    let told = c.turn-told.result in
+    let setting = g.P.Planner.setting (planner_in me.store) in
+    let given = g.C.Clock.given in
+    let message = c.message.result.now.segments in
+    let same : message ≡ c.args.decoder.segments = c.message.ensures.segments ∙ ap (λ d. d.segments) c.turn-told.ensures.decoder in
+    let turns = subst (λ (l : List Segment). Turns setting (seen_of given me.store) (entry_of me.lane me.session l told.outcome told.moment.number told.brought)
+    (text_with told.outcome told.buffer.items) (seen_of given turned)) (sym same) c.turn-told.ensures.turn in
+    ready_at g.D.Disk (seat g.D.Disk setting (seen_of given me.first.value) me.lane me.session)
+    (seat g.D.Disk (g.P.Planner.setting (planner_in now.store)) (seen_of given now.first.value) now.lane now.session)
+    (me.past ++ entry_of me.lane me.session message told.outcome told.moment.number told.brought ∷ []) now.past (seen_of given turned) (seen_of given now.store)
+    (same_seat g.D.Disk _ _ _ _ _ _ _ _ (ap g.P.Planner.setting (ap planner_in c.record.ensures.store ∙ c.turn-told.ensures.planner))
+    (ap (λ s. seen_of given s.value) c.record.ensures.first) c.record.ensures.session.0 c.record.ensures.session.1)
+    c.record.ensures.past (ap (seen_of given) c.record.ensures.store)
+    (ready_more g.D.Disk setting (seen_of given me.first.value) (seen_of given me.store) (seen_of given turned) me.lane me.session me.past message told.outcome
+    told.moment.number told.brought (text_with told.outcome told.buffer.items) c.requires.ready turns)
 
 pub returns-clause-answered : goal.returns-clause-answered
 returns-clause-answered g c =
     let me = c.args.self.now in
     let now = c.record.new.self in
-    let setting = setting_with me.config.now me.extensions.now.operations me.extensions.now.hooks in
-    let message = c.message-message.result.now.segments in
-    let outcome = c.outcome_of-outcome.result in
-    let made = c.try_turn-made.new.out.items in
-    let text = reply_bytes made c.reply_of.result in
-    let reply = reply_text (step setting (record { time = c.now.result }) (state me.table.contents None) message).reply in
-    pairs_at (seat me.config.now me.extensions.now.operations me.extensions.now.hooks me.lane me.session)
-    (seat now.config.now now.extensions.now.operations now.extensions.now.hooks now.lane now.session)
-    (me.past ++ turn_of me.lane me.session message outcome (record { time = c.now.result }) ∷ []) now.past
-    (same_seat _ _ _ _ _ _ _ _ _ _ c.record.ensures.config c.record.ensures.operations c.record.ensures.hooks
-    c.record.ensures.session.0 c.record.ensures.session.1) c.record.ensures.past
-    ∙ (pairs_more_by setting me.lane me.session me.past message outcome (record { time = c.now.result })
-    c.outcome_of-outcome.ensures.whole me.table.contents
-    text made c.requires.ready.after (c.reply_of.ensures made)
-    (λ d. on_ok c.try_turn-made.result _ c.try_turn-made.ensures.reply (c.outcome_of-outcome.ensures.done d)
-    ∙ ap (λ before. before ++ reply) c.clear.ensures.items)
-    ∙ ap (λ m. session_pairs setting first_state me.lane me.session me.past ++ pair m text ∷ [])
-    c.message-message.ensures.segments)
+    let turned = c.turn-told.new.self in
+    let told = c.turn-told.result in
+    let setting = g.P.Planner.setting (planner_in me.store) in
+    let given = g.C.Clock.given in
+    let first = seen_of given me.first.value in
+    let message = c.message.result.now.segments in
+    let text = reply_bytes told.buffer.items c.reply_of.result in
+    let same : message ≡ c.args.decoder.segments = c.message.ensures.segments ∙ ap (λ d. d.segments) c.turn-told.ensures.decoder in
+    let turns = subst (λ (l : List Segment). Turns setting (seen_of given me.store) (entry_of me.lane me.session l told.outcome told.moment.number told.brought)
+    (text_with told.outcome told.buffer.items) (seen_of given turned)) (sym same) c.turn-told.ensures.turn in
+    pairs_at g.D.Disk (seat g.D.Disk setting first me.lane me.session)
+    (seat g.D.Disk (g.P.Planner.setting (planner_in now.store)) (seen_of given now.first.value) now.lane now.session)
+    (me.past ++ entry_of me.lane me.session message told.outcome told.moment.number told.brought ∷ []) now.past
+    (same_seat g.D.Disk _ _ _ _ _ _ _ _ (ap g.P.Planner.setting (ap planner_in c.record.ensures.store ∙ c.turn-told.ensures.planner))
+    (ap (λ s. seen_of given s.value) c.record.ensures.first) c.record.ensures.session.0 c.record.ensures.session.1)
+    c.record.ensures.past
+    ∙ (pairs_with setting (state_in first) me.lane me.session me.past message told.outcome told.moment.number told.brought text
+    (c.reply_of.ensures told.buffer.items
+    ∙ c.runs_are_histories.ensures.reply setting first (seen_of given me.store) (seen_of given turned) me.past
+    (entry_of me.lane me.session message told.outcome told.moment.number told.brought) (text_with told.outcome told.buffer.items) c.requires.ready.runs turns)
+    ∙ ap (λ (m : List Segment). session_pairs setting (state_in first) me.lane me.session me.past ++ pair m text ∷ []) same)
