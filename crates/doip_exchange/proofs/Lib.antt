@@ -1,0 +1,5 @@
+pub mod Kept
+pub mod QuestionLemmas
+pub mod AnswerLemmas
+pub mod Keys
+pub mod SoundAnswers
