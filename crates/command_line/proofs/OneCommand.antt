@@ -1,10 +1,12 @@
 -- A command line is one command at most.
-use Rattle.std.proofs.Common.{◌≡◌, ◌<◌, ◌^◌, ◌∙◌, ℕ, List, Option, Some, true, false, codes, bytes_eq, unwrap_or, refl, sym, ap, arith}
+use Rattle.std.proofs.Common.{◌≡◌, ◌<◌, ◌^◌, ◌∙◌, ℕ, List, Option, Some, true, false, if◌then◌else◌, codes, bytes_eq, unwrap_or, refl, sym, ap, arith}
 use Rattle.std.proofs.lemmas.Slice.Eq.{bytes_eq-Decides}
 use Rattle.std.proofs.lemmas.Fmt.{decimal_injective}
 use Rattle.clap.specs.Words.{Row, matches_of}
 use Rattle.command_line.specs.Apps.{answer_app, init_app}
-use Rattle.command_line.specs.Command.{AnswerCommand, InitCommand, Command, Answer, Init, Check, AreArgumentsOf, HasAnswer, HasInit, IsNamed, IsNumberIn}
+use Rattle.command_line.specs.declared.help.Topic.{Topic}
+use Rattle.command_line.specs.declared.help.Topic.TheVariants as topics
+use Rattle.command_line.specs.Command.{AnswerCommand, InitCommand, Command, Answer, Init, Check, Help, AreArgumentsOf, AsksHelp, IsHelp, HasAnswer, HasInit, IsNamed, IsNumberIn}
 
 one_some : {A : Type 0} (a b : A) → Some a ≡ Some b → a ≡ b
 one_some a b e = ap (λ o. unwrap_or o a) e
@@ -47,15 +49,78 @@ same_init rows a b h g =
     one_number rows (codes "area") 64 268435456 a.area b.area (omega arith) h.area g.area in
     let same : init_of a.file a.area ≡ init_of b.file b.area = rw (file, area) refl in same
 
+-- the first word of a help, and the topic of a first word
+abbrev name_of : Topic → List ℕ
+name_of topics.Program = codes "--help"
+name_of topics.Version = codes "--version"
+name_of topics.Answer = codes "answer"
+name_of topics.Init = codes "init"
+name_of topics.Check = codes "check"
+
+abbrev topic_at : List ℕ → Topic
+topic_at name =
+    if bytes_eq name (codes "--help") then topics.Program
+    else if bytes_eq name (codes "--version") then topics.Version
+    else if bytes_eq name (codes "answer") then topics.Answer
+    else if bytes_eq name (codes "init") then topics.Init
+    else topics.Check
+
+topic_at-name_of : (t : Topic) → topic_at (name_of t) ≡ t
+topic_at-name_of topics.Program = refl
+topic_at-name_of topics.Version = refl
+topic_at-name_of topics.Answer = refl
+topic_at-name_of topics.Init = refl
+topic_at-name_of topics.Check = refl
+
+help_named : (t : Topic) (words : List (List ℕ)) → IsHelp t words → IsNamed (name_of t) words
+help_named topics.Program words h = h
+help_named topics.Version words h = h
+help_named topics.Answer words h = h.0
+help_named topics.Init words h = h.0
+help_named topics.Check words h = h.0
+
+same_topic : (t u : Topic) (words : List (List ℕ)) → IsHelp t words → IsHelp u words → t ≡ u
+same_topic t u words h g =
+    sym (topic_at-name_of t) ∙ (ap topic_at (one_some _ _ (sym (help_named t words h) ∙ help_named u words g)) ∙ topic_at-name_of u)
+
+-- a command that asks for no help is no help
+no_answer : (t : Topic) (words : List (List ℕ)) → IsHelp t words → IsNamed (codes "answer") words → (AsksHelp words → ⊥) → ⊥
+no_answer topics.Program words h named none = apart (codes "--help") (codes "answer") words refl h named
+no_answer topics.Version words h named none = apart (codes "--version") (codes "answer") words refl h named
+no_answer topics.Answer words h named none = none h.1
+no_answer topics.Init words h named none = apart (codes "init") (codes "answer") words refl h.0 named
+no_answer topics.Check words h named none = apart (codes "check") (codes "answer") words refl h.0 named
+
+no_init : (t : Topic) (words : List (List ℕ)) → IsHelp t words → IsNamed (codes "init") words → (AsksHelp words → ⊥) → ⊥
+no_init topics.Program words h named none = apart (codes "--help") (codes "init") words refl h named
+no_init topics.Version words h named none = apart (codes "--version") (codes "init") words refl h named
+no_init topics.Answer words h named none = apart (codes "answer") (codes "init") words refl h.0 named
+no_init topics.Init words h named none = none h.1
+no_init topics.Check words h named none = apart (codes "check") (codes "init") words refl h.0 named
+
+no_check : (t : Topic) (words : List (List ℕ)) → IsHelp t words → IsNamed (codes "check") words → (AsksHelp words → ⊥) → ⊥
+no_check topics.Program words h named none = apart (codes "--help") (codes "check") words refl h named
+no_check topics.Version words h named none = apart (codes "--version") (codes "check") words refl h named
+no_check topics.Answer words h named none = apart (codes "answer") (codes "check") words refl h.0 named
+no_check topics.Init words h named none = apart (codes "init") (codes "check") words refl h.0 named
+no_check topics.Check words h named none = none h.1
+
 pub one_command : (words : List (List ℕ)) (a b : Command) → AreArgumentsOf a words → AreArgumentsOf b words → a ≡ b
 one_command words (Answer a) (Answer b) h g =
-    ap (λ (c : AnswerCommand). Answer c) (same_answer (matches_of answer_app words) a b h.values g.values)
-one_command words (Answer a) (Init b) h g = absurd (apart (codes "answer") (codes "init") words refl h.named g.named)
-one_command words (Answer a) (Check b) h g = absurd (apart (codes "answer") (codes "check") words refl h.named g.named)
-one_command words (Init a) (Answer b) h g = absurd (apart (codes "init") (codes "answer") words refl h.named g.named)
+    ap (λ (c : AnswerCommand). Answer c) (same_answer (matches_of answer_app words) a b h.0.values g.0.values)
+one_command words (Answer a) (Init b) h g = absurd (apart (codes "answer") (codes "init") words refl h.0.named g.0.named)
+one_command words (Answer a) (Check b) h g = absurd (apart (codes "answer") (codes "check") words refl h.0.named g.0.named)
+one_command words (Init a) (Answer b) h g = absurd (apart (codes "init") (codes "answer") words refl h.0.named g.0.named)
 one_command words (Init a) (Init b) h g =
-    ap (λ (c : InitCommand). Init c) (same_init (matches_of init_app words) a b h.values g.values)
-one_command words (Init a) (Check b) h g = absurd (apart (codes "init") (codes "check") words refl h.named g.named)
-one_command words (Check a) (Answer b) h g = absurd (apart (codes "check") (codes "answer") words refl h.named g.named)
-one_command words (Check a) (Init b) h g = absurd (apart (codes "check") (codes "init") words refl h.named g.named)
-one_command words (Check a) (Check b) h g = ap (λ (f : List ℕ). Check f) (one_some a b (sym h.value ∙ g.value))
+    ap (λ (c : InitCommand). Init c) (same_init (matches_of init_app words) a b h.0.values g.0.values)
+one_command words (Init a) (Check b) h g = absurd (apart (codes "init") (codes "check") words refl h.0.named g.0.named)
+one_command words (Check a) (Answer b) h g = absurd (apart (codes "check") (codes "answer") words refl h.0.named g.0.named)
+one_command words (Check a) (Init b) h g = absurd (apart (codes "check") (codes "init") words refl h.0.named g.0.named)
+one_command words (Check a) (Check b) h g = ap (λ (f : List ℕ). Check f) (one_some a b (sym h.0.value ∙ g.0.value))
+one_command words (Help t) (Help u) h g = ap (λ (x : Topic). Help x) (same_topic t u words h g)
+one_command words (Help t) (Answer b) h g = absurd (no_answer t words h g.0.named g.1)
+one_command words (Help t) (Init b) h g = absurd (no_init t words h g.0.named g.1)
+one_command words (Help t) (Check b) h g = absurd (no_check t words h g.0.named g.1)
+one_command words (Answer a) (Help u) h g = absurd (no_answer u words g h.0.named h.1)
+one_command words (Init a) (Help u) h g = absurd (no_init u words g h.0.named h.1)
+one_command words (Check a) (Help u) h g = absurd (no_check u words g h.0.named h.1)

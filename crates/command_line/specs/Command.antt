@@ -8,6 +8,8 @@ use Rattle.command_line.specs.declared.answer.AnswerArguments.{AnswerArguments}
 use Rattle.command_line.specs.declared.init.InitArguments.{InitArguments}
 use Rattle.command_line.specs.declared.arguments.Arguments.{Arguments}
 use Rattle.command_line.specs.declared.arguments.Arguments.TheVariants as arguments
+use Rattle.command_line.specs.declared.help.Topic.{Topic}
+use Rattle.command_line.specs.declared.help.Topic.TheVariants as topics
 use Rattle.command_line.specs.declared.fault.ArgumentsFault.{ArgumentsFault}
 use Rattle.command_line.specs.declared.fault.ArgumentsFault.TheVariants.{Invalid, Memory}
 
@@ -25,11 +27,12 @@ pub record InitCommand : Type 0 where
   pub file : List ℕ
   pub area : ℕ
 
--- a command; `check` is given a file
+-- a command; `check` is given a file, a help is of a topic
 pub data Command : Type 0 where
   Answer : AnswerCommand → Command
   Init : InitCommand → Command
   Check : List ℕ → Command
+  Help : Topic → Command
 
 -- the prefix of a service: what comes before the first '/', or all of it
 abbrev pub prefix_of : List ℕ → List ℕ
@@ -83,11 +86,25 @@ pub record IsCheck (file : List ℕ) (words : List (List ℕ)) : Type 0 where
   pub accepted : fault_of check_app words ≡ []
   pub value : first_of (codes "file") (matches_of check_app words) ≡ Some file
 
--- the arguments are those of the command
+-- `--help` is the only word after the first
+pub record AsksHelp (words : List (List ℕ)) : Type 0 where
+  pub alone : length words ≡ 2
+  pub help : slice_get words 1 ≡ Some (codes "--help")
+
+-- `--help` or `--version` as the first word, or `--help` as the only word after a command's name
+abbrev pub IsHelp : Topic → List (List ℕ) → Type 0
+IsHelp topics.Program words = IsNamed (codes "--help") words
+IsHelp topics.Version words = IsNamed (codes "--version") words
+IsHelp topics.Answer words = IsNamed (codes "answer") words × AsksHelp words
+IsHelp topics.Init words = IsNamed (codes "init") words × AsksHelp words
+IsHelp topics.Check words = IsNamed (codes "check") words × AsksHelp words
+
+-- the arguments are those of the command, and ask for no help, or they are those of a help
 abbrev pub AreArgumentsOf : Command → List (List ℕ) → Type 0
-AreArgumentsOf (Answer command) words = IsAnswer command words
-AreArgumentsOf (Init command) words = IsInit command words
-AreArgumentsOf (Check file) words = IsCheck file words
+AreArgumentsOf (Answer command) words = IsAnswer command words × ¬ AsksHelp words
+AreArgumentsOf (Init command) words = IsInit command words × ¬ AsksHelp words
+AreArgumentsOf (Check file) words = IsCheck file words × ¬ AsksHelp words
+AreArgumentsOf (Help topic) words = IsHelp topic words
 
 -- the command line is valid
 abbrev pub IsCommand : List (List ℕ) → Type 0
@@ -111,6 +128,7 @@ abbrev pub command_in : Arguments → Command
 command_in (arguments.Answer a) = Answer (answer_in a)
 command_in (arguments.Init a) = Init (init_in a)
 command_in (arguments.Check a) = Check a.file.now
+command_in (arguments.Help h) = Help h.topic
 
 -- the fault is that of an invalid command line, and not out of memory
 abbrev pub IsInvalid : ArgumentsFault → Type 0

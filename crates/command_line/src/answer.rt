@@ -27,18 +27,13 @@ pub struct AnswerArguments<'a> {
 pub(crate) fn answer_command<'a>(alloc: Global) -> Result<Command<'a>, AllocError>
     ensures { IfOk result (λ command. app_of command ≡ answer_app) }
 {
-    command_named(
-        alloc,
-        "answer",
-        "zenkawi answer",
-        "Answers the messages on standard input",
-    )?
-    .arg(required(alloc, "service", "SERVICE", SERVICE_HELP))?
-    .arg(option_or(alloc, "address", "A", ADDRESS, ADDRESS_HELP))?
-    .arg(option_or(alloc, "port", "N", PORT, PORT_HELP))?
-    .arg(option(alloc, "accounts", "FILE", ACCOUNTS_HELP))?
-    .arg(option(alloc, "store", "FILE", STORE_HELP))?
-    .arg(option_or(alloc, "request", "N", REQUEST, REQUEST_HELP))
+    command_named(alloc, "answer", "zenkawi answer", ANSWER_ABOUT)?
+        .arg(required(alloc, "service", "SERVICE", SERVICE_HELP))?
+        .arg(option_or(alloc, "address", "A", ADDRESS, ADDRESS_HELP))?
+        .arg(option_or(alloc, "port", "N", PORT, PORT_HELP))?
+        .arg(option(alloc, "accounts", "FILE", ACCOUNTS_HELP))?
+        .arg(option(alloc, "store", "FILE", STORE_HELP))?
+        .arg(option_or(alloc, "request", "N", REQUEST, REQUEST_HELP))
 }
 
 // The service.

@@ -5,8 +5,9 @@ ghost use Rattle.command_line.specs.Command.{AreArgumentsOf, IsCommand, IsInvali
 use crate::answer::answer_arguments;
 use crate::check::check_arguments;
 use crate::fault::invalid;
+use crate::help::{help_of, topic_of};
 use crate::init::init_arguments;
-use crate::{AnswerArguments, ArgumentsFault, CheckArguments, InitArguments, Words};
+use crate::{AnswerArguments, ArgumentsFault, CheckArguments, Help, InitArguments, Words};
 use std::alloc::Global;
 
 /// A command with what it is given.
@@ -18,6 +19,8 @@ pub enum Arguments<'a> {
     Init(InitArguments<'a>),
     /// Checks a file that holds a repository.
     Check(CheckArguments<'a>),
+    /// Prints a help.
+    Help(Help),
 }
 
 // The fault of a first argument that is no command's name.
@@ -37,6 +40,9 @@ pub fn arguments_of<'a>(alloc: Global, words: &'a Words) -> Result<Arguments<'a>
     ensures ok { IfOk result (λ arguments. AreArgumentsOf (command_in arguments) words.now) }
     ensures invalid { IfErr result (λ fault. IsInvalid fault → IsCommand words.now → ⊥) }
 {
+    if let Some(topic) = topic_of(words) {
+        return Ok(Arguments::Help(help_of(alloc, topic)?));
+    }
     if words.is_empty() {
         return Err(unknown_command(alloc, words));
     }

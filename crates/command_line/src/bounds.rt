@@ -1,4 +1,11 @@
-//! The bounds and the defaults of what the commands are given. The help lines say the bounds.
+//! What the commands do, and the bounds and the defaults of what they are given. The help lines say the bounds.
+
+/// What each command does.
+pub(crate) const ANSWER_ABOUT: &str = "Answers the messages on standard input";
+
+pub(crate) const INIT_ABOUT: &str = "Makes a file that holds an empty repository";
+
+pub(crate) const CHECK_ABOUT: &str = "Checks a file that holds a repository";
 
 /// The most bytes that a service's identifier has, and its prefix.
 pub(crate) const LONGEST_SERVICE: usize = 255;

@@ -4,7 +4,7 @@ ghost use Rattle.clap.specs.Words.{app_of};
 ghost use Rattle.command_line.specs.Apps.{check_app};
 ghost use Rattle.command_line.specs.Command.{IsCheck, IsInvalid, IsNamed};
 
-use crate::bounds::FILE_HELP;
+use crate::bounds::{CHECK_ABOUT, FILE_HELP};
 use crate::fault::refuse;
 use crate::values::{command_named, required, values_of};
 use crate::{ArgumentsFault, Words};
@@ -21,13 +21,9 @@ pub struct CheckArguments<'a> {
 pub(crate) fn check_command<'a>(alloc: Global) -> Result<Command<'a>, AllocError>
     ensures { IfOk result (λ command. app_of command ≡ check_app) }
 {
-    command_named(
-        alloc,
-        "check",
-        "zenkawi check",
-        "Checks a file that holds a repository",
-    )?
-    .arg(required(alloc, "file", "FILE", FILE_HELP))
+    command_named(alloc, "check", "zenkawi check", CHECK_ABOUT)?.arg(required(
+        alloc, "file", "FILE", FILE_HELP,
+    ))
 }
 
 /// What `check` is given.

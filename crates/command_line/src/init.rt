@@ -4,7 +4,7 @@ ghost use Rattle.clap.specs.Words.{app_of};
 ghost use Rattle.command_line.specs.Apps.{init_app};
 ghost use Rattle.command_line.specs.Command.{InitCommand, HasInit, IsInit, IsInvalid, IsNamed, init_in};
 
-use crate::bounds::{AREA, AREA_HELP, FILE_HELP, GREATEST_AREA, LEAST_AREA};
+use crate::bounds::{AREA, AREA_HELP, FILE_HELP, GREATEST_AREA, INIT_ABOUT, LEAST_AREA};
 use crate::fault::refuse;
 use crate::values::{Values, command_named, option_or, required, values_of, wrong_number};
 use crate::{ArgumentsFault, Words};
@@ -22,14 +22,9 @@ pub struct InitArguments<'a> {
 pub(crate) fn init_command<'a>(alloc: Global) -> Result<Command<'a>, AllocError>
     ensures { IfOk result (λ command. app_of command ≡ init_app) }
 {
-    command_named(
-        alloc,
-        "init",
-        "zenkawi init",
-        "Makes a file that holds an empty repository",
-    )?
-    .arg(required(alloc, "file", "FILE", FILE_HELP))?
-    .arg(option_or(alloc, "area", "N", AREA, AREA_HELP))
+    command_named(alloc, "init", "zenkawi init", INIT_ABOUT)?
+        .arg(required(alloc, "file", "FILE", FILE_HELP))?
+        .arg(option_or(alloc, "area", "N", AREA, AREA_HELP))
 }
 
 // The values as what `init` is given.

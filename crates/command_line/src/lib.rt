@@ -5,6 +5,9 @@
 //! an option, and an option that is given twice is refused. A number is decimal digits with no sign and no leading zero,
 //! read by a call of our own.
 //!
+//! `--help` and `--version` as the first word, and `--help` as the only word after a command's name, are commands of their
+//! own, [`Help`]; anywhere else they are unknown options.
+//!
 //! A contract sees of [`Words`] the list of the arguments, and of [`Arguments`] its `command_in`, a `Command` of plain
 //! data with the defaults filled in. `AreArgumentsOf` of `specs/Command.antt` says which arguments a command has, by
 //! clap's own definitions: `fault_of` of the command is empty, and the values are those of `matches_of`. Its fields give
@@ -18,6 +21,7 @@ mod arguments;
 mod bounds;
 mod check;
 mod fault;
+mod help;
 mod init;
 mod law;
 mod number;
@@ -31,6 +35,7 @@ pub use argument::{ArgumentText, Words};
 pub use arguments::{Arguments, arguments_of};
 pub use check::CheckArguments;
 pub use fault::ArgumentsFault;
+pub use help::{Help, Topic};
 pub use init::InitArguments;
 pub use law::a_command_line_is_one_command;
 pub use service::prefix_of;

@@ -26,6 +26,7 @@ fn shown(alloc: Global, arguments: &Arguments<'_>) -> Result<String, AllocError>
         ),
         Arguments::Init(given) => format!(in alloc; "init {} {}", given.file, given.area),
         Arguments::Check(given) => format!(in alloc; "check {}", given.file),
+        Arguments::Help(help) => format!(in alloc; "help: {}", help.text),
     }
 }
 
@@ -84,7 +85,8 @@ answer s --port 1 --port 2 => ! the argument '--port <N>' cannot be used multipl
 answer s --address -x => ! unexpected argument '-x' found
 answer s --address => ! a value is required for '--address <A>'
 answer -s => ! unexpected argument '-s' found
-answer --help => ! unexpected argument '--help' found
+answer --help => ! Usage: zenkawi answer
+answer --help s => ! error: unexpected argument '--help' found
 answer s --help => ! unexpected argument '--help' found
 answer s t => ! unexpected argument 't' found
 answer => ! <SERVICE>
@@ -101,6 +103,13 @@ check -- -f => check -f
 check => ! <FILE>
 check f g => ! unexpected argument 'g' found
 check f --area 64 => ! unexpected argument '--area' found
+init --help => ! The bytes of each of the file's two areas, from 64 to 268435456
+check --help => ! Usage: zenkawi check
+--help => ! Usage: zenkawi <COMMAND>
+--help answer => ! Usage: zenkawi <COMMAND>
+--version => ! zenkawi 0.1.0
+check --version => ! error: unexpected argument '--version' found
+-h => ! error: unknown command '-h'
 call 35.TEST/svc => ! unknown command 'call': answer, init or check
  => ! unknown command '': answer, init or check
 -- answer s => ! unknown command '--': answer, init or check";

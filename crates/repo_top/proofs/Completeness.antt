@@ -3,7 +3,7 @@ use Rattle.std.proofs.Common.{◌≡◌, ◌⊎◌, inl, inr, ℕ, List, [], ◌
 use Rattle.std.specs.List.{AllByRecursion}
 use Rattle.std.specs.Option.{ForSome}
 use Rattle.base_core.specs.Causes.{Rose}
-use Rattle.command_line.specs.Command.{AnswerCommand, Command, Answer, Init, Check, IsCommand}
+use Rattle.command_line.specs.Command.{AnswerCommand, Command, Answer, Init, Check, Help, IsCommand}
 use Rattle.disk_core.specs.Disk.{DiskState}
 use Rattle.disk_core.specs.declared.disk.Disk.{Ghosts}
 use Rattle.ext_ops.specs.Offered.{Offered}
@@ -26,7 +26,7 @@ use Rattle.repo_top.specs.declared.outcome.NoSession.{NoSession}
 use Rattle.repo_top.specs.declared.outcome.NoSession.TheVariants as reasons
 use Rattle.repo_top.specs.Answer.{LeavesDisk, RanAnswer}
 use Rattle.repo_top.specs.Commands.{CountsNoFault, EndsEarly, HasNoLink, IsFaultless, IsOfInput, IsRunOf, IsWithoutFault, IsWords, RanAs, World}
-use Rattle.repo_top.specs.Files.{CheckLeaves, HandsBack, InitLeaves, Prints, handed, made_line}
+use Rattle.repo_top.specs.Files.{CheckLeaves, HandsBack, InitLeaves, IsOfPrinting, Prints, handed, made_line}
 use Rattle.repo_top.specs.Start.{HasReason, OnDisk}
 use Rattle.repo_top.specs.declared.outcome.Note.TheVariants as notes
 use Rattle.repo_top.specs.Run.{Exit, Left, Views, exit, exit_of_file, exit_of_session, exit_without_session, left}
@@ -212,6 +212,18 @@ module _ {E : Type 0} (g : Ghosts E) (path : List ℕ) (old new : HostState) (ho
   check_end n text (ends.Disk count) None (Some d) before after hands back prints none out = back
   check_end n text (ends.Disk count) (Some o) None before after hands back prints none out = back
 
+-- a text was printed, or the sink counted a fault
+printed : (end : FileEnd) → IsOfPrinting end → (text : List ℕ) (before after : SinkState) → Prints end text before after
+    → ¬ Rose before.faults after.faults → IsEndWithoutFault end
+unfolding IsEndWithoutFault
+printed ends.Done of text before after prints out = tt
+printed ends.Out of text before after prints out = out prints.rose
+printed ends.Host of text before after prints out = of
+printed ends.Memory of text before after prints out = tt
+printed (ends.Disk count) of text before after prints out = of
+printed (ends.Store fault) of text before after prints out = tt
+printed (ends.NotEmpty n) of text before after prints out = tt
+
 of_command : {E T : Type 0} (v : Views E T) (command : Command) (offers : Offered) (before after : World) (run : Left E T)
     → RanAs v command offers before after run → CountsNoFault v before after run → IsFaultless run
 of_command v (Answer command) offers before after run ran none =
@@ -225,6 +237,8 @@ of_command v (Check file) offers before after run ran none =
     no_turns run ran.no_link
     (of_end run.exit ran.end ran.exit (check_end v.disk file before.host after.host none.host ran.checks.numbers _ ran.end run.opened run.disk
     before.out after.out ran.host ran.checks.file ran.checks.out none.disk none.out))
+of_command v (Help topic) offers before after run ran none =
+    no_turns run ran.no_link (of_end run.exit ran.end ran.exit (printed ran.end ran.of_printing ran.text before.out after.out ran.out none.out))
 
 of_early : {E T : Type 0} (words : List (List ℕ)) (before after : World) (run : Left E T) → EndsEarly words before after run
     → IsFaultless run

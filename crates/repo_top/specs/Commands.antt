@@ -3,7 +3,7 @@ use Rattle.std.specs.Prelude.{◌≡◌, ◌⊎◌, ℕ, List, [], None}
 use Rattle.std.specs.List.{AllByRecursion}
 use Rattle.std.specs.Option.{ForSome}
 use Rattle.base_core.specs.Causes.{Rose}
-use Rattle.command_line.specs.Command.{Command, InitCommand, Answer, Init, Check, AreArgumentsOf, IsCommand}
+use Rattle.command_line.specs.Command.{Command, InitCommand, Answer, Init, Check, Help, AreArgumentsOf, IsCommand}
 use Rattle.ext_ops.specs.Offered.{Offered}
 use Rattle.link_core.specs.Host.{HostState, HandsOutDisk}
 use Rattle.link_core.specs.Link.{SinkState}
@@ -14,7 +14,7 @@ use Rattle.repo_top.specs.declared.file_run.FileEnd.{FileEnd}
 use Rattle.repo_top.specs.declared.outcome.Note.{Note}
 use Rattle.repo_top.specs.declared.outcome.Note.TheVariants as notes
 use Rattle.repo_top.specs.Answer.{RanAnswer}
-use Rattle.repo_top.specs.Files.{Checks, HandsBack, InitLeaves, Prints, handed, made_line}
+use Rattle.repo_top.specs.Files.{Checks, HandsBack, InitLeaves, IsOfPrinting, Prints, handed, made_line}
 use Rattle.repo_top.specs.Run.{Left, Views, exit, exit_of_file}
 
 -- The host, and the sink that commands print on.
@@ -50,12 +50,24 @@ pub record RanCheck {E T : Type 0} (v : Views E T) (file : List ℕ) (before aft
   pub checks : Checks v.disk.state run.opened run.disk end before.out after.out
   pub no_link : HasNoLink run
 
+-- A run of `--help` or `--version`: it prints a text and asks the host for nothing. No clause says what the text is.
+pub record RanHelp {E T : Type 0} (before after : World) (run : Left E T) : Type 0 where
+  pub text : List ℕ
+  pub end : FileEnd
+  pub exit : run.exit ≡ exit_of_file end
+  pub of_printing : IsOfPrinting end
+  pub out : Prints end text before.out after.out
+  pub host : after.host ≡ before.host
+  pub no_disk : (run.opened ≡ None) × (run.disk ≡ None)
+  pub no_link : HasNoLink run
+
 -- a run of this command; `answer` prints nothing beside its replies
 abbrev pub RanAs : {E T : Type 0} → Views E T → Command → Offered → World → World → Left E T → Type 0
 RanAs v (Answer command) offers before after run =
     RanAnswer v command offers before.host after.host run × (after.out ≡ before.out)
 RanAs v (Init command) offers before after run = RanInit v command before after run
 RanAs v (Check file) offers before after run = RanCheck v file before after run
+RanAs v (Help topic) offers before after run = RanHelp before after run
 
 -- A run of the command that the arguments are.
 pub record RanCommand {E T : Type 0} (v : Views E T) (words : List (List ℕ)) (offers : Offered) (before after : World)

@@ -3,6 +3,7 @@ ghost use Rattle.std.specs.Prelude.{◌≡◌, ◌≤◌, [], is_some, option_ma
 ghost use Rattle.std.specs.Option.{ForSome};
 ghost use Rattle.ext_ops.specs.Offered.{offered};
 ghost use Rattle.repo_top.specs.Commands.{CountsNoFault, IsFaultless, IsRunOf, world};
+ghost use Rattle.repo_top.specs.Files.{IsOfPrinting, Prints};
 ghost use Rattle.repo_top.specs.Run.{exit, exit_of_file, left, views};
 ghost use Rattle.repo_top.specs.Session.{HasTimesOf};
 
@@ -10,6 +11,7 @@ use crate::answer::run_answer;
 use crate::check::check_file;
 use crate::file_run::{FileEnd, FileRun};
 use crate::init::make_file;
+use crate::printing::print_last;
 use crate::{Note, Ran};
 use command_line::{Arguments, ArgumentsFault, Words, arguments_of};
 use ext_ops::Extensions;
@@ -91,6 +93,20 @@ where
     }
 }
 
+// Prints a help.
+fn print_help<D, S: Sink>(text: &str, out: &mut S) -> FileRun<D>
+    ensures opened { option_map (λ s. s.value) result.opened ≡ None }
+    ensures disk { result.disk ≡ None }
+    ensures of_printing { IsOfPrinting result.end }
+    ensures out { Prints result.end text.now (S.state out.old) (S.state out.new) }
+{
+    FileRun {
+        opened: None,
+        disk: None,
+        end: print_last(out, text.as_bytes()),
+    }
+}
+
 /// Runs the command of the arguments, with these extensions.
 ///
 /// | status | comes | note |
@@ -106,7 +122,8 @@ where
 ///
 /// The first whose condition holds is the status. `answer` replies to each message on the host's console, in order, over
 /// the store in the file that the arguments name, or over one that holds nothing at first and lasts as long as the session.
-/// `init` makes a file, and `check` reads one; both print on `out`.
+/// `init` makes a file, and `check` reads one; both print on `out`, as `--help` and
+/// `--version` do.
 pub fn run_plain<H: Host, S: Sink>(
     alloc: Global,
     words: &Words,
@@ -148,5 +165,6 @@ where
             ran_file(make_file(arguments.file, arguments.area, host, out))
         }
         Arguments::Check(arguments) => ran_file(check_file(alloc, arguments.file, host, out)),
+        Arguments::Help(help) => ran_file(print_help(&help.text, out)),
     }
 }
