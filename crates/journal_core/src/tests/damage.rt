@@ -1,5 +1,5 @@
 //! Files that are refused, and where.
-use super::{bytes_of, file_of};
+use super::{bytes_of, fault_of, file_of, new_journal};
 use crate::{Journal, OpenFault};
 use disk_core::MemoryDisk;
 use std::alloc::Global;
@@ -72,6 +72,41 @@ fn each_altered_byte_of_a_record_is_damage(rt: HostRuntime) -> Result<(), Fail> 
         other[place] ^= 1;
         assert_eq!(rt; outcome_of(alloc, &other)?, damaged, "byte {place}");
     }
+    Ok(())
+}
+
+// The file of a journal in an area of 1,000 bytes to which two bodies of 165 bytes were added.
+fn file_of_two(alloc: Global) -> Result<Vec<u8>, Fail> {
+    let mut journal = new_journal(alloc, 1000)?;
+    let _first = fault_of(alloc, &mut journal, 165)?;
+    let _second = fault_of(alloc, &mut journal, 165)?;
+    Ok(journal.disk().file().to_vec(alloc)?)
+}
+
+// Flips a bit of the byte at this place, if there is one.
+fn flip(file: &mut Vec<u8>, place: usize) {
+    if let Some(byte) = file.get_mut(place) {
+        *byte ^= 1;
+    }
+}
+
+#[test]
+fn a_flipped_bit_of_the_first_body_is_damage(rt: HostRuntime) -> Result<(), Fail> {
+    let alloc = rt.alloc();
+    let mut file = file_of_two(alloc)?;
+    assert_eq!(rt; outcome_of(alloc, &file)?, Ok(2));
+    flip(&mut file, 58);
+    let damaged = Err(OpenFault::Damaged { place: 33 });
+    assert_eq!(rt; outcome_of(alloc, &file)?, damaged);
+    Ok(())
+}
+
+#[test]
+fn a_new_file_with_its_gate_open_and_a_byte_more_is_damage(rt: HostRuntime) -> Result<(), Fail> {
+    let alloc = rt.alloc();
+    let file = file_of(alloc, 224, 0, &[2, 1, 1])?;
+    let damaged = Err(OpenFault::Damaged { place: 33 });
+    assert_eq!(rt; outcome_of(alloc, &file)?, damaged);
     Ok(())
 }
 
