@@ -23,7 +23,7 @@ pub struct FirstJournal<D: Disk> {
 impl<D: Disk> FirstJournal<D> {
     ghost use Rattle.std.specs.List.{All};
     ghost use Rattle.journal_core.specs.Journal.{IsNumbered};
-    ghost use Rattle.journal_core.specs.First.{first_disk, Migrates, IsNotMigrated};
+    ghost use Rattle.journal_core.specs.First.{first_area, first_disk, first_side, Migrates, IsNotMigrated};
 
     /// Writes these records in format 2 into the other area, turns the side to it, and returns the journal of format 2
     /// once that is durable. A crash leaves the list of format 1 or these records. It takes no memory.
@@ -61,6 +61,20 @@ impl<D: Disk> FirstJournal<D> {
             }),
             Err(Failed) => Err((disk, CommitFault::DiskFault)),
         }
+    }
+
+    /// The length of an area, in bytes.
+    pub fn area(&self) -> u64
+        ensures { result ≡ first_area self.now }
+    {
+        self.area
+    }
+
+    /// The area that counts, 0 or 1.
+    pub fn side(&self) -> u8
+        ensures { result ≡ first_side self.now }
+    {
+        self.side
     }
 
     /// Gives the disk back, unwritten.
