@@ -1,5 +1,5 @@
 -- What contracts see of a journal of format 1, and what its migration does.
-use Rattle.std.specs.Prelude.{◌≡◌, ◌⊎◌, ◌↔◌, ℕ, ◌+◌, ◌≤◌, List, Some}
+use Rattle.std.specs.Prelude.{◌≡◌, ◌⊎◌, ◌↔◌, ℕ, ◌+◌, ◌≤◌, List, Some, IsSome}
 use Rattle.std.specs.Option.{ForSome}
 use Rattle.base_core.specs.Causes.{Rose}
 use Rattle.disk_core.specs.Disk.{DiskState, IsSettled}
@@ -61,6 +61,7 @@ module _ {D : Type 0} {g : Ghosts D} where
     pub used : used_of new ≡ 1 + room_for entries
     pub bytes : ForSome (first_state old).content (λ file.
         (state_of new).content ≡ Some (turned (first_area old) (first_side old) entries file))
+    pub reported : ForSome (state_of new).content (λ _. IsSome (first_state old).content)
     pub count : (first_state old).faults ≤ (state_of new).faults
     pub clock : (first_state old).moment ≤ (state_of new).moment
 
@@ -73,5 +74,6 @@ module _ {D : Type 0} {g : Ghosts D} where
     pub others : (fault ≡ DiskFault) ⊎ (fault ≡ Full 2 (told (room_for entries)))
     pub disk_fault : fault ≡ DiskFault → Rose (first_state old).faults (g.state disk).faults
     pub crash : SurvivesMigration old (g.state disk) entries
+    pub reported : ForSome (g.state disk).content (λ _. IsSome (first_state old).content)
     pub count : (first_state old).faults ≤ (g.state disk).faults
     pub clock : (first_state old).moment ≤ (g.state disk).moment

@@ -1,4 +1,5 @@
 use Rattle.std.proofs.Common.{inl, inr, ◌+◌, ◌≤◌, refl, ap, arith}
+use Rattle.disk_core.proofs.RunLaws.{reports}
 use Rattle.journal_core.specs.Journal.{room_for}
 use Rattle.journal_core.specs.declared.journal.CommitFault.TheVariants.{Full, DiskFault}
 use Rattle.journal_core.specs.declared.layout.Format.TheVariants.{First}
@@ -18,6 +19,7 @@ returns-then-area-saturating_add-clause-refused g c =
       others = inr (ap (Full 2) room);
       disk_fault = λ is. absurd (cc);
       crash = turn_idle First (g.D.Disk.state was.disk) was.area was.side rs;
+      reported = reports (g.D.Disk.state was.disk).content;
       count = omega arith;
       clock = omega arith;
     }
@@ -41,6 +43,7 @@ returns-in-Ok-clause-migrated g c =
         used = λ last now. omega (arith, length-listed rs, c.room_of-room.ensures.room, fits, was.bounded);
       };
       crash = c.turn.ensures.crash First;
+      reported = c.turn.ensures.reported;
       area = refl;
       side = refl;
       used = omega (arith, c.room_of-room.ensures.room, fits, was.bounded);
@@ -63,6 +66,7 @@ returns-in-Err-clause-refused g c =
       others = inl refl;
       disk_fault = λ is. c.in-Err.ensures.cause.failed;
       crash = c.turn.ensures.crash First;
+      reported = c.turn.ensures.reported;
       count = c.turn.ensures.cause.later;
       clock = c.turn.ensures.clock;
     }
