@@ -34,6 +34,6 @@ abbrev pub init_app : App
 init_app = with_rule (with_rule (bare_app (codes "init")) (required_rule (codes "file")))
     (default_rule (codes "area") (codes "268435456"))
 
--- `check FILE`
-abbrev pub check_app : App
-check_app = with_rule (bare_app (codes "check")) (required_rule (codes "file"))
+-- `check FILE`, and each other command that is given a file alone
+abbrev pub file_app : Text → App
+file_app name = with_rule (bare_app name) (required_rule (codes "file"))

@@ -3,7 +3,7 @@ use Rattle.std.specs.Prelude.{◌≡◌, ◌≤◌, ℕ, List, [], Option, Some,
 use Rattle.std.specs.List.{before_first}
 use Rattle.clap.specs.Words.{Row, first_of, matches_of, fault_of}
 use Rattle.dobj_model.specs.Name.{IsName}
-use Rattle.command_line.specs.Apps.{answer_app, init_app, check_app}
+use Rattle.command_line.specs.Apps.{answer_app, init_app, file_app}
 use Rattle.command_line.specs.declared.answer.AnswerArguments.{AnswerArguments}
 use Rattle.command_line.specs.declared.init.InitArguments.{InitArguments}
 use Rattle.command_line.specs.declared.arguments.Arguments.{Arguments}
@@ -27,11 +27,13 @@ pub record InitCommand : Type 0 where
   pub file : List ℕ
   pub area : ℕ
 
--- a command; `check` is given a file, a help is of a topic
+-- a command; `check`, `compact` and `migrate` are given a file, a help is of a topic
 pub data Command : Type 0 where
   Answer : AnswerCommand → Command
   Init : InitCommand → Command
   Check : List ℕ → Command
+  Compact : List ℕ → Command
+  Migrate : List ℕ → Command
   Help : Topic → Command
 
 -- the prefix of a service: what comes before the first '/', or all of it
@@ -80,11 +82,11 @@ pub record IsInit (command : InitCommand) (words : List (List ℕ)) : Type 0 whe
   pub accepted : fault_of init_app words ≡ []
   pub values : HasInit (matches_of init_app words) command
 
--- The arguments are `check` and what clap accepts as its own.
-pub record IsCheck (file : List ℕ) (words : List (List ℕ)) : Type 0 where
-  pub named : IsNamed (codes "check") words
-  pub accepted : fault_of check_app words ≡ []
-  pub value : first_of (codes "file") (matches_of check_app words) ≡ Some file
+-- The arguments are this command, which is given a file alone, and what clap accepts as its own.
+pub record IsOnFile (name file : List ℕ) (words : List (List ℕ)) : Type 0 where
+  pub named : IsNamed name words
+  pub accepted : fault_of (file_app name) words ≡ []
+  pub value : first_of (codes "file") (matches_of (file_app name) words) ≡ Some file
 
 -- `--help` is the only word after the first
 pub record AsksHelp (words : List (List ℕ)) : Type 0 where
@@ -98,12 +100,16 @@ IsHelp topics.Version words = IsNamed (codes "--version") words
 IsHelp topics.Answer words = IsNamed (codes "answer") words × AsksHelp words
 IsHelp topics.Init words = IsNamed (codes "init") words × AsksHelp words
 IsHelp topics.Check words = IsNamed (codes "check") words × AsksHelp words
+IsHelp topics.Compact words = IsNamed (codes "compact") words × AsksHelp words
+IsHelp topics.Migrate words = IsNamed (codes "migrate") words × AsksHelp words
 
 -- the arguments are those of the command, and ask for no help, or they are those of a help
 abbrev pub AreArgumentsOf : Command → List (List ℕ) → Type 0
 AreArgumentsOf (Answer command) words = IsAnswer command words × ¬ AsksHelp words
 AreArgumentsOf (Init command) words = IsInit command words × ¬ AsksHelp words
-AreArgumentsOf (Check file) words = IsCheck file words × ¬ AsksHelp words
+AreArgumentsOf (Check file) words = IsOnFile (codes "check") file words × ¬ AsksHelp words
+AreArgumentsOf (Compact file) words = IsOnFile (codes "compact") file words × ¬ AsksHelp words
+AreArgumentsOf (Migrate file) words = IsOnFile (codes "migrate") file words × ¬ AsksHelp words
 AreArgumentsOf (Help topic) words = IsHelp topic words
 
 -- the command line is valid
@@ -128,6 +134,8 @@ abbrev pub command_in : Arguments → Command
 command_in (arguments.Answer a) = Answer (answer_in a)
 command_in (arguments.Init a) = Init (init_in a)
 command_in (arguments.Check a) = Check a.file.now
+command_in (arguments.Compact a) = Compact a.file.now
+command_in (arguments.Migrate a) = Migrate a.file.now
 command_in (arguments.Help h) = Help h.topic
 
 -- the fault is that of an invalid command line, and not out of memory

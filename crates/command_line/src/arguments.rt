@@ -3,11 +3,11 @@ ghost use Rattle.std.specs.Prelude.{IfOk, IfErr};
 ghost use Rattle.command_line.specs.Command.{AreArgumentsOf, IsCommand, IsInvalid, command_in};
 
 use crate::answer::answer_arguments;
-use crate::check::check_arguments;
 use crate::fault::invalid;
 use crate::help::{help_of, topic_of};
 use crate::init::init_arguments;
-use crate::{AnswerArguments, ArgumentsFault, CheckArguments, Help, InitArguments, Words};
+use crate::on_file::{CHECK, COMPACT, MIGRATE, file_arguments};
+use crate::{AnswerArguments, ArgumentsFault, FileArguments, Help, InitArguments, Words};
 use std::alloc::Global;
 
 /// A command with what it is given.
@@ -18,7 +18,11 @@ pub enum Arguments<'a> {
     /// Makes a file that holds an empty repository.
     Init(InitArguments<'a>),
     /// Checks a file that holds a repository.
-    Check(CheckArguments<'a>),
+    Check(FileArguments<'a>),
+    /// Writes the objects of a file anew, without its past changes.
+    Compact(FileArguments<'a>),
+    /// Brings a file of format 1 over to format 2.
+    Migrate(FileArguments<'a>),
     /// Prints a help.
     Help(Help),
 }
@@ -31,7 +35,7 @@ fn unknown_command(alloc: Global, words: &Words) -> ArgumentsFault {
         words.item(0).get()
     };
     invalid(format!(in alloc;
-        "error: unknown command '{name}': answer, init or check\n\nUsage: zenkawi <COMMAND> ...\n"
+        "error: unknown command '{name}': answer, init, check, compact or migrate\n\nUsage: zenkawi <COMMAND> ...\n"
     ))
 }
 
@@ -49,7 +53,9 @@ pub fn arguments_of<'a>(alloc: Global, words: &'a Words) -> Result<Arguments<'a>
     match words.item(0).get() {
         "answer" => Ok(Arguments::Answer(answer_arguments(alloc, words)?)),
         "init" => Ok(Arguments::Init(init_arguments(alloc, words)?)),
-        "check" => Ok(Arguments::Check(check_arguments(alloc, words)?)),
+        "check" => Ok(Arguments::Check(file_arguments(alloc, &CHECK, words)?)),
+        "compact" => Ok(Arguments::Compact(file_arguments(alloc, &COMPACT, words)?)),
+        "migrate" => Ok(Arguments::Migrate(file_arguments(alloc, &MIGRATE, words)?)),
         _ => Err(unknown_command(alloc, words)),
     }
 }

@@ -7,6 +7,11 @@ pub(crate) const INIT_ABOUT: &str = "Makes a file that holds an empty repository
 
 pub(crate) const CHECK_ABOUT: &str = "Checks a file that holds a repository";
 
+pub(crate) const COMPACT_ABOUT: &str =
+    "Writes the repository's objects anew, without its past changes";
+
+pub(crate) const MIGRATE_ABOUT: &str = "Brings a file of format 1 over to format 2";
+
 /// The most bytes that a service's identifier has, and its prefix.
 pub(crate) const LONGEST_SERVICE: usize = 255;
 

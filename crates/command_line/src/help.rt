@@ -5,9 +5,9 @@ ghost use Rattle.command_line.specs.declared.help.Topic.{Topic};
 
 use crate::Words;
 use crate::answer::answer_command;
-use crate::bounds::{ANSWER_ABOUT, CHECK_ABOUT, INIT_ABOUT};
-use crate::check::check_command;
+use crate::bounds::{ANSWER_ABOUT, CHECK_ABOUT, COMPACT_ABOUT, INIT_ABOUT, MIGRATE_ABOUT};
 use crate::init::init_command;
+use crate::on_file::{CHECK, COMPACT, MIGRATE, file_command};
 use std::alloc::{AllocError, Global};
 
 /// The version of the program.
@@ -26,6 +26,10 @@ pub enum Topic {
     Init,
     /// The command `check`.
     Check,
+    /// The command `compact`.
+    Compact,
+    /// The command `migrate`.
+    Migrate,
 }
 
 /// A help that was asked for.
@@ -60,6 +64,8 @@ pub(crate) fn topic_of(words: &Words) -> Option<Topic>
         "answer" => Some(Topic::Answer),
         "init" => Some(Topic::Init),
         "check" => Some(Topic::Check),
+        "compact" => Some(Topic::Compact),
+        "migrate" => Some(Topic::Migrate),
         _ => None,
     }
 }
@@ -67,8 +73,8 @@ pub(crate) fn topic_of(words: &Words) -> Option<Topic>
 // The commands, and what each does.
 fn program_text(alloc: Global) -> Result<String, AllocError> {
     format!(in alloc;
-        "A repository of digital objects\n\nUsage: zenkawi <COMMAND> ...\n\nCommands:\n  answer  {}\n  init    {}\n  check   {}\n\n'zenkawi <COMMAND> --help' says what a command is given; '--version' prints the version\n",
-        ANSWER_ABOUT, INIT_ABOUT, CHECK_ABOUT
+        "A repository of digital objects\n\nUsage: zenkawi <COMMAND> ...\n\nCommands:\n  answer   {}\n  init     {}\n  check    {}\n  compact  {}\n  migrate  {}\n\n'zenkawi <COMMAND> --help' says what a command is given; '--version' prints the version\n",
+        ANSWER_ABOUT, INIT_ABOUT, CHECK_ABOUT, COMPACT_ABOUT, MIGRATE_ABOUT
     )
 }
 
@@ -81,7 +87,9 @@ pub(crate) fn help_of(alloc: Global, topic: Topic) -> Result<Help, AllocError>
         Topic::Version => format!(in alloc; "zenkawi {VERSION}\n")?,
         Topic::Answer => answer_command(alloc)?.render_help()?,
         Topic::Init => init_command(alloc)?.render_help()?,
-        Topic::Check => check_command(alloc)?.render_help()?,
+        Topic::Check => file_command(alloc, &CHECK)?.render_help()?,
+        Topic::Compact => file_command(alloc, &COMPACT)?.render_help()?,
+        Topic::Migrate => file_command(alloc, &MIGRATE)?.render_help()?,
     };
     Ok(Help { topic, text })
 }

@@ -26,6 +26,8 @@ fn shown(alloc: Global, arguments: &Arguments<'_>) -> Result<String, AllocError>
         ),
         Arguments::Init(given) => format!(in alloc; "init {} {}", given.file, given.area),
         Arguments::Check(given) => format!(in alloc; "check {}", given.file),
+        Arguments::Compact(given) => format!(in alloc; "compact {}", given.file),
+        Arguments::Migrate(given) => format!(in alloc; "migrate {}", given.file),
         Arguments::Help(help) => format!(in alloc; "help: {}", help.text),
     }
 }
@@ -102,6 +104,11 @@ check f => check f
 check -- -f => check -f
 check => ! <FILE>
 check f g => ! unexpected argument 'g' found
+compact f => compact f
+compact => ! <FILE>
+migrate -- -f => migrate -f
+migrate f --force => ! unexpected argument '--force' found
+migrate --help => ! Usage: zenkawi migrate
 check f --area 64 => ! unexpected argument '--area' found
 init --help => ! The bytes of each of the file's two areas, from 64 to 268435456
 check --help => ! Usage: zenkawi check
@@ -110,9 +117,9 @@ check --help => ! Usage: zenkawi check
 --version => ! zenkawi 0.1.0
 check --version => ! error: unexpected argument '--version' found
 -h => ! error: unknown command '-h'
-call 35.TEST/svc => ! unknown command 'call': answer, init or check
- => ! unknown command '': answer, init or check
--- answer s => ! unknown command '--': answer, init or check";
+call 35.TEST/svc => ! unknown command 'call': answer, init, check, compact or migrate
+ => ! unknown command '': answer, init, check, compact or migrate
+-- answer s => ! unknown command '--': answer, init, check, compact or migrate";
 
 #[test]
 fn each_command_line_gives_its_command(rt: HostRuntime) -> Result<(), Fail> {

@@ -11,7 +11,17 @@ returns-in_ok-init_arguments-in-init-clause-ok c =
     let ok = c.in_ok-init_arguments-in-init.ensures.ok in
     (ok, λ asks. c.topic_of.ensures.none c.in_default.is topics.Init (ok.named, asks))
 
-pub returns-in_ok-check_arguments-in-check-clause-ok : goal.returns-in_ok-check_arguments-in-check-clause-ok
-returns-in_ok-check_arguments-in-check-clause-ok c =
-    let ok = c.in_ok-check_arguments-in-check.ensures.ok in
+pub returns-in_ok-file_arguments-in-check-clause-ok : goal.returns-in_ok-file_arguments-in-check-clause-ok
+returns-in_ok-file_arguments-in-check-clause-ok c =
+    let ok = c.in_ok-file_arguments-in-check.ensures.ok in
     (ok, λ asks. c.topic_of.ensures.none c.in_default.is topics.Check (ok.named, asks))
+
+pub returns-in_ok-file_arguments-in-compact-clause-ok : goal.returns-in_ok-file_arguments-in-compact-clause-ok
+returns-in_ok-file_arguments-in-compact-clause-ok c =
+    let ok = c.in_ok-file_arguments-in-compact.ensures.ok in
+    (ok, λ asks. c.topic_of.ensures.none c.in_default.is topics.Compact (ok.named, asks))
+
+pub returns-in_ok-file_arguments-in-migrate-clause-ok : goal.returns-in_ok-file_arguments-in-migrate-clause-ok
+returns-in_ok-file_arguments-in-migrate-clause-ok c =
+    let ok = c.in_ok-file_arguments-in-migrate.ensures.ok in
+    (ok, λ asks. c.topic_of.ensures.none c.in_default.is topics.Migrate (ok.named, asks))

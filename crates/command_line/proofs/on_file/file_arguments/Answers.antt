@@ -2,7 +2,7 @@ use Rattle.std.proofs.Common.{◌∙◌, ap, sym, subst, codes, List, option_cop
 use Rattle.clap.specs.Words.{App, Text, first_of, fault_of, matches_of}
 use Rattle.command_line.specs.Command.{IsInvalid}
 use Rattle.command_line.proofs.Shapes.{err_if}
-use Rattle.command_line.proofs.check.check_arguments.Goals as goal
+use Rattle.command_line.proofs.on_file.file_arguments.Goals as goal
 
 pub returns-in_err-values-clause-err : goal.returns-in_err-values-clause-err
 returns-in_err-values-clause-err c =

@@ -1,6 +1,6 @@
 use Rattle.std.proofs.lemmas.Result.{IfOk-weaker}
 use Rattle.command_line.proofs.Shapes.{adds}
-use Rattle.command_line.proofs.check.check_command.Goals as goal
+use Rattle.command_line.proofs.on_file.file_command.Goals as goal
 
 pub returns : goal.returns
 returns c =

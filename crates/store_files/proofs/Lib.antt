@@ -1,0 +1,4 @@
+pub mod Anew
+pub mod Compacting
+pub mod Places
+pub mod Migrating
