@@ -2,9 +2,10 @@
 use Rattle.std.proofs.Common.{◌≡◌, ℕ, List, [], ◌∷◌, ◌++◌, None, Some, Ok, Err, length, map, sym, ap, ◌∙◌, subst}
 use Rattle.base_core.specs.declared.failed.Failed.{Failed}
 use Rattle.doip_segment.specs.declared.outcome.Limits.{Limits}
+use Rattle.doip_message.specs.Pairs.{Pair}
 use Rattle.history_lock.specs.declared.pass.Pass.{Pass}
 use Rattle.history_lock.specs.declared.turned.Turned.{Ghosts}
-use Rattle.history_lock.specs.History.{grown, own_of, share_of}
+use Rattle.history_lock.specs.History.{entries_by, grown, own_of, share_of}
 use Rattle.history_lock.specs.Passes.{IsFresh, LockId, lock_of, seen, shares}
 use Rattle.link_core.specs.Link.{LinkState}
 use Rattle.repo_step.specs.History.{Entry}
@@ -12,10 +13,11 @@ use Rattle.lane_server.specs.declared.served.ServedSession.{ServedSession}
 use Rattle.lane_server.specs.Admitting.{Admission, HasEnd, accepted, failures}
 use Rattle.lane_server.specs.Closing.{ServedAndClosed}
 use Rattle.lane_server.specs.Growing.{Grew, pairs_by}
-use Rattle.lane_server.specs.Lanes.{LaneState, Serves, Terms, terms}
+use Rattle.lane_server.specs.Lanes.{LaneState, LawOfLonger, Serves, Terms, terms}
 use Rattle.lane_server.specs.Turns.{Start}
 use Rattle.lane_server.proofs.DoorLemmas.{fault_more, link_more, none_more}
-use Rattle.lane_server.proofs.LaneLemmas.{served_on, serves_none}
+use Rattle.lane_server.proofs.LaneLemmas.{all_both, numbered_below, served_on, serves_none}
+use Rattle.lane_server.proofs.PairLemmas.{pairs_others}
 
 module _ {L : Type 0} (link_state : L → LinkState) (t : Terms) (lane : ℕ) where
   -- before the first session
@@ -113,3 +115,15 @@ pub with_limits : {L S C R D E F : Type 0} {g : Ghosts S C R Entry} {h : Ghosts 
     → LaneState link_state (terms m start) lane store door pass taker sessions
 with_limits link_state start lane store door pass taker sessions l m same s =
     subst (λ (x : Limits). LaneState link_state (terms x start) lane store door pass taker sessions) same s
+
+-- a history that has no more turns of the lane
+pub longer : {L : Type 0} (link_state : L → LinkState) → LawOfLonger link_state
+longer {L} link_state t lane history more own sessions none s = record {
+  numbered = s.numbered;
+  each = all_both sessions
+      (λ x b d. subst (λ (ps : List Pair). ServedAndClosed t.limits [] ps (link_state x.begun.value) (link_state x.link) x.end)
+      (sym (pairs_others t.start x.lane x.session history more
+      (subst (λ (n : ℕ). entries_by n more ≡ []) (sym b.0) none))) d)
+      (numbered_below link_state t lane 0 sessions s.numbered) s.each;
+  only = s.only;
+}

@@ -1,11 +1,11 @@
 -- The sessions of one lane. This project's own.
-use Rattle.std.specs.Prelude.{◌≡◌, ◌+◌, ◌<◌, ℕ, List, [], ◌∷◌, length, map}
+use Rattle.std.specs.Prelude.{◌≡◌, ◌+◌, ◌<◌, ℕ, List, [], ◌∷◌, ◌++◌, length, map}
 use Rattle.std.specs.List.{AllByRecursion}
 use Rattle.doip_segment.specs.declared.outcome.Limits.{Limits}
 use Rattle.history_lock.specs.declared.board.Entered.{Entered}
 use Rattle.history_lock.specs.declared.pass.Pass.{Pass}
 use Rattle.history_lock.specs.declared.turned.Turned.{Ghosts}
-use Rattle.history_lock.specs.History.{own_of, share_of}
+use Rattle.history_lock.specs.History.{entries_by, own_of, share_of}
 use Rattle.history_lock.specs.Passes.{LockId, lock_of, seen, shares}
 use Rattle.link_core.specs.Link.{LinkState}
 use Rattle.repo_step.specs.History.{Entry}
@@ -58,6 +58,12 @@ module _ {L : Type 0} where
     pub number : shares pass ≡ share_of lane (own_of (shares pass)) ∷ []
     pub door_lock : lock_of taker ≡ door
     pub door_number : shares taker ≡ share_of lane (own_of (shares taker)) ∷ []
+
+  -- What a lane served is the same in a longer history that has no more turns of its number.
+  abbrev pub LawOfLonger : (L → LinkState) → Type 0
+  LawOfLonger link_state = (terms : Terms) (lane : ℕ) (history more : List (Entered Entry)) (own : List Entry)
+      (sessions : List (ServedSession L)) → entries_by lane more ≡ [] → Serves link_state terms lane history own sessions
+      → Serves link_state terms lane (history ++ more) own sessions
 
 -- how a lane ended, by its turns at the door
 abbrev pub EndsLane : {L : Type 0} → LaneEnd → List (Admission L) → Type 0

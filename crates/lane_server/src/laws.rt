@@ -2,9 +2,10 @@
 ghost use Rattle.lane_server.specs.Turns.{LawOfTurns};
 ghost use Rattle.lane_server.specs.Admitting.{LawOfAdmissions};
 ghost use Rattle.lane_server.specs.Closing.{LawOfClosing};
+ghost use Rattle.lane_server.specs.Lanes.{LawOfLonger};
 
 use disk_core::Disk;
-use link_core::{Clock, Listener};
+use link_core::{Clock, Link, Listener};
 use repo_store::Planner;
 
 /// The turns that a lock took on a store are turns of that store, one after another in one setting: so what the laws of
@@ -24,4 +25,10 @@ pub fn closing_keeps_the_session()
 /// accepted or the list is at its end.
 pub fn doors_admit_in_order<Li: Listener>()
     ensures { LawOfAdmissions Li.Link.state Li.state }
+{}
+
+/// What a lane served is the same in any longer history, as the pass that its own is joined into may have seen it, if that
+/// has no more turns of the lane.
+pub fn sessions_stay_in_longer_histories<L: Link>()
+    ensures { LawOfLonger L.state }
 {}
