@@ -6,3 +6,5 @@ pub mod Since
 pub mod Turning
 pub mod Opened
 pub mod OverFiles
+pub mod Compacting
+pub mod OverShrunk

@@ -1,20 +1,26 @@
 -- What the opening of a file says.
-use Rattle.std.proofs.Common.{◌≡◌, inl, inr, ℕ, ◌+◌, ◌<◌, List, [], ◌∷◌, ◌++◌, length, take, slice_get, Some, Result, Ok, Err, refl, sym, ap, ◌∙◌, subst, arith}
+use Rattle.std.proofs.Common.{◌≡◌, inl, inr, ℕ, ◌+◌, ◌<◌, ◌≤◌, List, [], ◌∷◌, ◌++◌, length, take, slice_get, Some, Result, Ok, Err, refl, sym, ap, ◌∙◌, subst, arith}
+use Rattle.std.specs.List.{All, fold}
 use Rattle.std.proofs.lemmas.List.{take_more}
+use Rattle.std.proofs.lemmas.List.Elements.{All-head, All-tail}
 use Rattle.std.proofs.lemmas.List.Sums.{sum_by-append}
 use Rattle.std.proofs.lemmas.Option.{slice_get_within, get_or_from_slice_get}
 use Rattle.disk_core.specs.Disk.{DiskState}
 use Rattle.disk_core.specs.Runs.{LeavesAlone}
 use Rattle.disk_core.specs.declared.disk.Disk.{Ghosts}
-use Rattle.journal_core.specs.Journal.{disk_of, area_of, side_of, record_length, room_for}
+use Rattle.journal_core.specs.Journal.{disk_of, area_of, side_of, record_length, room_for, IsNumbered}
+use Rattle.journal_core.specs.Layout.{most_number}
 use Rattle.journal_core.specs.Open as journals
 use Rattle.journal_core.specs.declared.journal.Journal.{Journal}
 use Rattle.journal_core.specs.declared.layout.Format.TheVariants.{Second}
 use Rattle.journal_core.specs.declared.open.OpenFault.{OpenFault}
 use Rattle.journal_core.specs.declared.open.OpenFault.TheVariants as opens
 use Rattle.journal_core.specs.declared.records.Record.{Record}
+use Rattle.journal_core.specs.declared.records.Stamp.{Stamp}
 use Rattle.record_core.specs.declared.format.Format.TheVariants as bodies
+use Rattle.repo_state.specs.Contents.{Contents, Stamped, apply, replay}
 use Rattle.repo_state.specs.Held.{Held}
+use Rattle.repo_state.specs.Recorded.{AreRecordsOf}
 use Rattle.repo_state.specs.Replayed as replayed
 use Rattle.repo_state.specs.Sound.{IsConsistent}
 use Rattle.repo_state.specs.declared.replay.ReplayFault.{ReplayFault}
@@ -35,6 +41,21 @@ gives records table made consistent = record {
   gives = sym made.1.gives ∙ sym made.3;
   consistent = consistent;
 }
+
+-- the number of contents is that of the last record
+number_after : (c : Contents) (rs : List Record) (ss : List Stamped) → c.number ≤ most_number → AreRecordsOf bodies.Second rs ss → All IsNumbered rs → (fold (λ before s. apply s before) c ss).number ≤ most_number
+number_after c [] [] low are numbered = low
+number_after c [] (s ∷ ss) low are numbered = absurd are
+number_after c (r ∷ rs) [] low are numbered = absurd are
+number_after c (r ∷ rs) (s ∷ ss) low are numbered =
+    number_after (apply s c) rs ss (subst (λ (t : Stamp). t.number ≤ most_number) are.0.stamp (All-head IsNumbered r rs numbered)) are.1 (All-tail IsNumbered r rs numbered)
+
+number_replayed : (rs : List Record) (ss : List Stamped) → AreRecordsOf bodies.Second rs ss → All IsNumbered rs → (replay ss).number ≤ most_number
+number_replayed rs ss are numbered = number_after _ rs ss (omega arith) are numbered
+
+pub number_opened : (records : List Record) (table : Held) → All IsNumbered records → Replays records (Ok table) → table.contents.number ≤ most_number
+number_opened records table numbered made =
+    subst (λ (c : Contents). c.number ≤ most_number) (sym made.1.gives ∙ sym made.3) (number_replayed records made.1.changes made.1.are numbered)
 
 pub inside : (records : List Record) (fault : ReplayFault) → Replays records (Err fault) → IsInside records fault
 inside records (replays.NotARecord index) made = let within : index < length records = slice_get_within records index made.other made.there in omega (arith, within)

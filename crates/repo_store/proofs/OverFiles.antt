@@ -39,7 +39,7 @@ module _ (setting : Setting) where
   some_with Closed s e is = is
 
   -- a state keeps that it has an area, or that it has none
-  some_all : (s : State) (es : List Entry) → IsSome s.room → IsSome (state_after_all setting s es).room
+  pub some_all : (s : State) (es : List Entry) → IsSome s.room → IsSome (state_after_all setting s es).room
   some_all s [] is = is
   some_all s (e ∷ es) is = some_all (after setting s e) es (some_with e.outcome s e is)
 
@@ -52,7 +52,7 @@ no_moments n [] zero within = tt
 no_moments n (e ∷ es) zero within = (omega (arith, within.0, zero), no_moments n es zero within.1)
 
 -- what holds from a moment on holds from an earlier one
-sooner : (early late : ℕ) (es : List Entry) → early ≤ late → MomentsFrom (λ e. e) late es → MomentsFrom (λ e. e) early es
+pub sooner : (early late : ℕ) (es : List Entry) → early ≤ late → MomentsFrom (λ e. e) late es → MomentsFrom (λ e. e) early es
 sooner early late [] low from = tt
 sooner early late (e ∷ es) low from = (omega (arith, low, from.0), from.1)
 
@@ -72,7 +72,7 @@ none_by None not = refl
 none_by (Some x) not = absurd (not refl)
 
 module _ {D : Type 0} (g : Ghosts D) where
-  journal_there : (j : Option (Journal D g)) → IsSome (room_in j) → (k : Journal D g) × (j ≡ Some k)
+  pub journal_there : (j : Option (Journal D g)) → IsSome (room_in j) → (k : Journal D g) × (j ≡ Some k)
   journal_there None is = absurd (cc)
   journal_there (Some k) is = (k, refl)
 

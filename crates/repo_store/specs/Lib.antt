@@ -5,3 +5,5 @@ pub mod Opening
 pub mod Survival
 pub mod Law
 pub mod Files
+pub mod Compaction
+pub mod Shrunk

@@ -6,13 +6,28 @@ use Rattle.journal_core.specs.declared.journal.Room.{Room}
 use Rattle.journal_core.specs.declared.records.Record.{Record}
 use Rattle.journal_core.specs.declared.layout.Format.TheVariants.{Second}
 use Rattle.journal_core.specs.File.{Holds}
-use Rattle.journal_core.specs.Journal.{disk_of, state_of, area_of, used_of, Keeps}
+use Rattle.journal_core.specs.Journal.{disk_of, state_of, area_of, side_of, used_of, Keeps}
 
 module _ {D : Type 0} {g : Ghosts D} where
   -- how much of the area is used, if there is one
   abbrev pub room_in : Option (Journal D g) → Option Room
   room_in None = None
   room_in (Some journal) = Some (record { used = used_of journal; area = area_of journal })
+
+  -- the length of an area, 0 without a disk
+  abbrev pub area_in : Option (Journal D g) → ℕ
+  area_in None = 0
+  area_in (Some journal) = area_of journal
+
+  -- the area that counts, 0 without a disk
+  abbrev pub side_in : Option (Journal D g) → ℕ
+  side_in None = 0
+  side_in (Some journal) = side_of journal
+
+  -- the file, if there is a disk and it reports its content
+  abbrev pub content_in : Option (Journal D g) → Option (List ℕ)
+  content_in None = None
+  content_in (Some journal) = (state_of journal).content
 
   -- the disk, if there is one
   abbrev pub disk_in : Option (Journal D g) → Option D

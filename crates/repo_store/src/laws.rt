@@ -1,6 +1,7 @@
 //! What any list of turns leaves. Each call does nothing when it runs: a proof calls it for its clause.
 ghost use Rattle.repo_store.specs.Files.{LawOfFiles};
 ghost use Rattle.repo_store.specs.Law.{LawOfRuns, LawOfReopening, LawSince};
+ghost use Rattle.repo_store.specs.Shrunk.{LawOfShrunkFiles};
 
 use disk_core::Disk;
 use repo_state::{compaction_keeps_contents, records_decide_changes};
@@ -22,6 +23,12 @@ pub fn runs_survive_crashes<D: Disk>()
 /// raised the disk's count. A store without a disk stays without, and its turns meet no disk fault.
 pub fn runs_leave_their_files<D: Disk>()
     ensures { LawOfFiles D.Disk }
+{}
+
+/// The same of a store that was shrunk before its first turn: its first state has the room that the shrink left, and each
+/// crash since the opening leaves a prefix of the changes.
+pub fn runs_leave_shrunk_files<D: Disk>()
+    ensures { LawOfShrunkFiles D.Disk }
 {}
 
 /// A file that stands for contents stands for these alone, and no opening refuses it but for a fault of the disk or for

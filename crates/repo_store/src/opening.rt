@@ -1,9 +1,11 @@
 //! Opening a store over a file.
 ghost use Rattle.std.specs.Prelude.{◌≡◌, ◌+◌, ◌≤◌, length, take, None, IfOk, IfErr};
 ghost use Rattle.journal_core.specs.Journal.{told, room_for};
+ghost use Rattle.journal_core.specs.Layout.{most_number};
 ghost use Rattle.repo_store.specs.Store.{clock_in, planner_in, seen_of};
 ghost use Rattle.repo_store.specs.Opening.{Opens, OpensFile, IsRefused, IsRefusedFor, IsInside, body_place, fault_of_opening, fault_of_replay};
 
+use crate::numbered::NumberedTable;
 use crate::{Planner, Store, StoreFault};
 use disk_core::Disk;
 use journal_core::{Journal, OpenFault, Records};
@@ -15,7 +17,7 @@ use std::alloc::Global;
 const HEADER_LENGTH: u64 = 32;
 
 /// The bytes of a record beside its body: its gate, its fields and its digest.
-const RECORD_OVERHEAD: u64 = 57;
+pub(crate) const RECORD_OVERHEAD: u64 = 57;
 
 /// The bytes of a list and a record before the body: a version byte, a gate and the fields.
 const BEFORE_BODY: u64 = 26;
@@ -57,7 +59,7 @@ impl<D: Disk, C: Clock, P: Planner> Store<D, C, P> {
     {
         let (journal, table) = match disk {
             Some(disk) => match open_table(alloc, disk) {
-                Ok((journal, table)) => (Some(journal), table),
+                Ok((journal, table)) => (Some(journal), NumberedTable::of(table)),
                 Err((disk, fault)) => return Err(NotOpened {
                     disk: Some(disk),
                     clock,
@@ -65,7 +67,7 @@ impl<D: Disk, C: Clock, P: Planner> Store<D, C, P> {
                     fault,
                 }),
             },
-            None => (None, Table::new(alloc)),
+            None => (None, NumberedTable::new(alloc)),
         };
         Ok(Store {
             alloc,
@@ -86,6 +88,7 @@ impl<D: Disk, C: Clock, P: Planner> Store<D, C, P> {
 /// failed in this call; `Memory`.
 pub fn open_table<D: Disk>(alloc: Global, disk: D) -> Result<(Journal<D>, Table), (D, StoreFault)>
     ensures opened { IfOk result (λ opened. OpensFile (D.state disk) opened.0 opened.1.contents) }
+    ensures numbered { IfOk result (λ opened. opened.1.contents.number ≤ most_number) }
     ensures refused { IfErr result (λ refusal. IsRefusedFor (D.state disk) (D.state refusal.0) refusal.1) }
 {
     match Journal::open(alloc, disk) {

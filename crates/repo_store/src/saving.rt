@@ -1,5 +1,5 @@
 //! A change on the disk.
-ghost use Rattle.std.specs.Prelude.{◌≡◌, ◌+◌, ◌-◌, ◌^◌, ◌≤◌, ◌++◌, min, length, List, Some, IsSome, IfErr, OnOk, OnErr};
+ghost use Rattle.std.specs.Prelude.{◌≡◌, ◌+◌, ◌-◌, ◌^◌, ◌<◌, ◌≤◌, ◌++◌, min, length, List, Some, IsSome, IfSome, IfErr, OnOk, OnErr};
 ghost use Rattle.std.specs.Option.{ForSome};
 ghost use Rattle.base_core.specs.Causes.{Rose};
 ghost use Rattle.journal_core.specs.Layout.{most_number};
@@ -12,7 +12,8 @@ use journal_core::{Journal, Moment, Room, Stamp};
 
 /// How much of the area is used, if there is one.
 pub(crate) fn room_of<D: Disk>(journal: &Option<Journal<D>>) -> Option<Room>
-    ensures { result ≡ room_in journal.now }
+    ensures room { result ≡ room_in journal.now }
+    ensures within { IfSome result (λ room. room.used < room.area) }
 {
     match journal {
         Some(journal) => Some(journal.room()),
@@ -20,8 +21,8 @@ pub(crate) fn room_of<D: Disk>(journal: &Option<Journal<D>>) -> Option<Room>
     }
 }
 
-// How often the journal's disk has failed.
-fn fault_count<D: Disk>(journal: &Journal<D>) -> u64
+/// How often the journal's disk has failed.
+pub(crate) fn fault_count<D: Disk>(journal: &Journal<D>) -> u64
     ensures { result ≡ min (state_of journal.now).faults (2 ^ 64 - 1) }
 {
     journal.disk().fault_count()

@@ -15,6 +15,7 @@ ghost use Rattle.repo_store.specs.Stands.{StandsEither};
 ghost use Rattle.repo_store.specs.Store.{IsTurnOf, KeepsContents, Turns, clock_in, entry_of, place_of, planner_in, record_of, seen, seen_of, text_with};
 
 use crate::Planner;
+use crate::numbered::NumberedTable;
 use crate::saving::{moment_of, room_of, save};
 use crate::work::{ReplyText, Told, Work};
 use disk_core::Disk;
@@ -32,7 +33,7 @@ use std::alloc::{AllocError, Global};
 pub struct Store<D: Disk, C: Clock, P: Planner> {
     pub(crate) alloc: Global,
     pub(crate) planner: P,
-    pub(crate) table: Table,
+    pub(crate) table: NumberedTable,
     pub(crate) journal: Option<Journal<D>>,
     pub(crate) clock: C,
     pub(crate) closed: Option<u64>,
@@ -58,7 +59,7 @@ impl From<AllocError> for Failure {
 // fails, the contents stay, and the buffer may end with a part of the text.
 fn try_turn<D: Disk, P: Planner>(
     alloc: Global,
-    table: &mut Table,
+    table: &mut NumberedTable,
     journal: &mut Option<Journal<D>>,
     planner: &P,
     brought: Brought,
@@ -97,9 +98,8 @@ fn try_turn<D: Disk, P: Planner>(
     ensures keeps { OnOk result (KeepsContents journal.old table.old.contents
         → KeepsContents journal.new table.new.contents) }
 {
-    table.counter();
     let room = room_of(journal);
-    let planned = planner.plan(alloc, table, brought, room, message)?;
+    let planned = planner.plan(alloc, table.table(), brought, room, message)?;
     planned.append(alloc, out)?;
     let Some(change) = planned.into_change() else {
         return Ok(());
@@ -111,7 +111,7 @@ fn try_turn<D: Disk, P: Planner>(
 // Commits a change that can be made, and installs it. All memory is taken before the commit.
 fn commit_change<D: Disk>(
     alloc: Global,
-    table: &mut Table,
+    table: &mut NumberedTable,
     journal: &mut Option<Journal<D>>,
     brought: Brought,
     change: Change,
@@ -209,7 +209,7 @@ impl<D: Disk, C: Clock, P: Planner> Store<D, C, P> {
     pub fn table(&self) -> &Table
         ensures { result.now ≡ self.now.table }
     {
-        &self.table
+        self.table.table()
     }
 
     /// How much of the area is used; `None` without a disk.

@@ -1,5 +1,6 @@
 use Rattle.std.proofs.Common.{◌≡◌, inl, Option, sym, ap, ◌∙◌}
 use Rattle.journal_core.specs.declared.journal.Room.{Room}
+use Rattle.repo_state.specs.Held.{Held}
 use Rattle.repo_step.specs.Setting.{state}
 use Rattle.repo_step.specs.Step.{step}
 use Rattle.repo_store.specs.Saved.{room_in}
@@ -17,11 +18,13 @@ returns-in_default-clause-crash g c = λ reports keeps. still g.D.Disk c.args.jo
 
 pub commit_change-requires : goal.commit_change-requires
 commit_change-requires g c =
-    let before = c.args.table.now.contents in
-    let there : (step (g.P.Planner.setting c.args.planner.now) c.args.brought (state before (room_in c.args.journal.now)) c.args.message.now.segments).change
-    ≡ (step (g.P.Planner.setting c.args.planner.now) c.args.brought (state before c.room_of-room.result) c.args.message.now.segments).change =
-    ap (λ (r : Option Room). (step (g.P.Planner.setting c.args.planner.now) c.args.brought (state before r) c.args.message.now.segments).change) (sym c.room_of-room.ensures) in
+    let setting = g.P.Planner.setting c.args.planner.now in
+    let room = room_in c.args.journal.now in
+    let there : (step setting c.args.brought (state c.args.table.now.contents room) c.args.message.now.segments).change
+    ≡ (step setting c.args.brought (state c.table.result.now.contents c.room_of-room.result) c.args.message.now.segments).change =
+    ap (λ (r : Option Room). (step setting c.args.brought (state c.args.table.now.contents r) c.args.message.now.segments).change) (sym c.room_of-room.ensures.room)
+    ∙ ap (λ (h : Held). (step setting c.args.brought (state h.contents c.room_of-room.result) c.args.message.now.segments).change) (sym c.table.ensures.same) in
     record {
-      follows = c.steps_keep_consistency.ensures (g.P.Planner.setting c.args.planner.now) c.args.brought (state before (room_in c.args.journal.now)) c.args.message.now.segments c.in-Some.change
-          c.counter.ensures.consistent (there ∙ (sym (ap (λ p. p.change) c.in_ok-planned.ensures.plan) ∙ (sym c.into_change.ensures ∙ c.in-Some.is)));
+      follows = c.steps_keep_consistency.ensures setting c.args.brought (state c.args.table.now.contents room) c.args.message.now.segments c.in-Some.change
+          c.table.ensures.consistent (there ∙ (sym (ap (λ p. p.change) c.in_ok-planned.ensures.plan) ∙ (sym c.into_change.ensures ∙ c.in-Some.is)));
     }
