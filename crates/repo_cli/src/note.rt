@@ -108,6 +108,10 @@ impl Line<'_> {
             ),
             Note::Disk { .. } => f.write_str("reading or writing the store's file failed"),
             Note::Store(fault) => write_store_fault(fault, f),
+            Note::Full { used, asked } => write!(
+                f,
+                "an area of the file is too short: {used} bytes are used, {asked} more are needed"
+            ),
             Note::NotEmpty { length } => write!(
                 f,
                 "the file has {length} bytes; a store is made in a new or an empty file"

@@ -12,6 +12,8 @@ mod opening;
 mod planner;
 mod saving;
 mod store;
+#[cfg(test)]
+mod tests;
 mod work;
 
 pub use compaction::{CompactFault, ShrinkFault};

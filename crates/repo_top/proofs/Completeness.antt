@@ -1,9 +1,9 @@
 -- A run in which no fault is counted is done, has an invalid command line or a refused file, or is out of memory.
-use Rattle.std.proofs.Common.{◌≡◌, ◌⊎◌, inl, inr, ℕ, List, [], ◌∷◌, Option, None, Some, IsSome, refl, sym, ap, ◌∙◌, subst, arith}
+use Rattle.std.proofs.Common.{◌≡◌, ◌⊎◌, inl, inr, ℕ, List, [], ◌∷◌, Option, None, Some, IsSome, Result, Err, refl, sym, ap, ◌∙◌, subst, arith}
 use Rattle.std.specs.List.{AllByRecursion}
 use Rattle.std.specs.Option.{ForSome}
 use Rattle.base_core.specs.Causes.{Rose}
-use Rattle.command_line.specs.Command.{AnswerCommand, Command, Answer, Init, Check, Help, IsCommand}
+use Rattle.command_line.specs.Command.{AnswerCommand, Command, Answer, Init, Check, Compact, Migrate, Help, IsCommand}
 use Rattle.disk_core.specs.Disk.{DiskState}
 use Rattle.disk_core.specs.declared.disk.Disk.{Ghosts}
 use Rattle.ext_ops.specs.Offered.{Offered}
@@ -17,6 +17,7 @@ use Rattle.repo_step.specs.History.{AreClosed, Entry, GoesOn, IsWhole, OutcomesF
 use Rattle.repo_store.specs.Files.{TurnsTaken}
 use Rattle.repo_store.specs.Law.{HasFault}
 use Rattle.repo_store.proofs.OverFiles.{whole_fault}
+use Rattle.repo_store.specs.declared.fault.StoreFault.TheVariants as stores
 use Rattle.session_core.specs.declared.end.SessionEnd.{SessionEnd}
 use Rattle.session_core.specs.declared.end.SessionEnd.TheVariants.{Ended, Cut, Framing, ReadFault, WriteFault}
 use Rattle.repo_top.specs.declared.check.Numbers.{Numbers}
@@ -27,7 +28,12 @@ use Rattle.repo_top.specs.declared.outcome.NoSession.TheVariants as reasons
 use Rattle.repo_top.specs.Answer.{LeavesDisk, RanAnswer}
 use Rattle.repo_top.specs.Commands.{CountsNoFault, EndsEarly, HasNoLink, IsFaultless, IsOfInput, IsRunOf, IsWithoutFault, IsWords, RanAs, World}
 use Rattle.repo_top.specs.Files.{CheckLeaves, HandsBack, InitLeaves, IsOfPrinting, Prints, handed, made_line}
+use Rattle.repo_top.specs.Rewrites.{RewriteLeaves}
 use Rattle.repo_top.specs.Start.{HasReason, OnDisk}
+use Rattle.store_files.specs.First.{Migrates}
+use Rattle.store_files.specs.Rewriting.{Compacts}
+use Rattle.store_files.specs.declared.fault.RewriteFault.{RewriteFault}
+use Rattle.store_files.specs.declared.fault.RewriteFault.TheVariants as rewrites
 use Rattle.repo_top.specs.declared.outcome.Note.TheVariants as notes
 use Rattle.repo_top.specs.Run.{Exit, Left, Views, exit, exit_of_file, exit_of_session, exit_without_session, left}
 
@@ -151,6 +157,7 @@ no_turns run none status = record {
 IsEndWithoutFault : FileEnd → Type 0
 IsEndWithoutFault ends.Done = Unit {0}
 IsEndWithoutFault (ends.Store fault) = Unit {0}
+IsEndWithoutFault (ends.Full used asked) = Unit {0}
 IsEndWithoutFault (ends.NotEmpty n) = Unit {0}
 IsEndWithoutFault ends.Memory = Unit {0}
 IsEndWithoutFault ends.Host = ⊥
@@ -161,6 +168,7 @@ of_end : (x : Exit) (end : FileEnd) → x ≡ exit_of_file end → IsEndWithoutF
 unfolding IsEndWithoutFault
 of_end x ends.Done is none = inl (ap (λ (e : Exit). e.status) is)
 of_end x (ends.Store fault) is none = inr (inr (inl (ap (λ (e : Exit). e.status) is)))
+of_end x (ends.Full used asked) is none = inr (inr (inl (ap (λ (e : Exit). e.status) is)))
 of_end x (ends.NotEmpty n) is none = inr (inr (inl (ap (λ (e : Exit). e.status) is)))
 of_end x ends.Memory is none = inr (inr (inr (inl (ap (λ (e : Exit). e.status) is))))
 of_end x ends.Host is none = absurd none
@@ -182,6 +190,7 @@ module _ {E : Type 0} (g : Ghosts E) (path : List ℕ) (old new : HostState) (ho
   unfolding IsEndWithoutFault
   init_end area ends.Done opened disk before after hands back prints none out = tt
   init_end area (ends.Store fault) opened disk before after hands back prints none out = tt
+  init_end area (ends.Full used asked) opened disk before after hands back prints none out = tt
   init_end area (ends.NotEmpty n) opened disk before after hands back prints none out = tt
   init_end area ends.Memory opened disk before after hands back prints none out = tt
   init_end area ends.Out opened disk before after hands back prints none out = out prints.rose
@@ -200,6 +209,7 @@ module _ {E : Type 0} (g : Ghosts E) (path : List ℕ) (old new : HostState) (ho
   unfolding IsEndWithoutFault
   check_end n text ends.Done opened disk before after hands back prints none out = tt
   check_end n text (ends.Store fault) opened disk before after hands back prints none out = tt
+  check_end n text (ends.Full used asked) opened disk before after hands back prints none out = tt
   check_end n text (ends.NotEmpty k) opened disk before after hands back prints none out = tt
   check_end n text ends.Memory opened disk before after hands back prints none out = tt
   check_end n text ends.Out opened disk before after hands back prints none out = out prints.rose
@@ -212,6 +222,28 @@ module _ {E : Type 0} (g : Ghosts E) (path : List ℕ) (old new : HostState) (ho
   check_end n text (ends.Disk count) None (Some d) before after hands back prints none out = back
   check_end n text (ends.Disk count) (Some o) None before after hands back prints none out = back
 
+  -- a file that was written anew, or that was refused
+  module _ {R : Type 0} (Does : DiskState → DiskState → Result R RewriteFault → Type 0)
+      (rises : (s t : DiskState) → Does s t (Err (rewrites.Store stores.DiskFault)) → Rose s.faults t.faults) where
+    rewrite_end : (done : R) (text : List ℕ) (end : FileEnd) (opened disk : Option E) (before after : SinkState) → HandsOutDisk g.state path old new (handed opened end)
+        → HandsBack g.state (RewriteLeaves Does done) end opened disk → Prints end text before after
+        → ForSome disk (λ d. ¬ Rose 0 (g.state d).faults) → ¬ Rose before.faults after.faults → IsEndWithoutFault end
+    unfolding IsEndWithoutFault
+    rewrite_end n text ends.Done opened disk before after hands back prints none out = tt
+    rewrite_end n text (ends.Store fault) opened disk before after hands back prints none out = tt
+    rewrite_end n text (ends.Full used asked) opened disk before after hands back prints none out = tt
+    rewrite_end n text (ends.NotEmpty k) opened disk before after hands back prints none out = tt
+    rewrite_end n text ends.Memory opened disk before after hands back prints none out = tt
+    rewrite_end n text ends.Out opened disk before after hands back prints none out = out prints.rose
+    rewrite_end n text ends.Host None disk before after hands back prints none out = not_host None hands refl
+    rewrite_end n text ends.Host (Some o) None before after hands back prints none out = back
+    rewrite_end n text ends.Host (Some o) (Some d) before after hands back prints none out = back
+    rewrite_end n text (ends.Disk count) (Some o) (Some d) before after hands back prints none out =
+        no_rise g o d (zero_at o (ends.Disk count) hands) (none d refl) (rises (g.state o) (g.state d) back.0)
+    rewrite_end n text (ends.Disk count) None None before after hands back prints none out = back
+    rewrite_end n text (ends.Disk count) None (Some d) before after hands back prints none out = back
+    rewrite_end n text (ends.Disk count) (Some o) None before after hands back prints none out = back
+
 -- a text was printed, or the sink counted a fault
 printed : (end : FileEnd) → IsOfPrinting end → (text : List ℕ) (before after : SinkState) → Prints end text before after
     → ¬ Rose before.faults after.faults → IsEndWithoutFault end
@@ -222,6 +254,7 @@ printed ends.Host of text before after prints out = of
 printed ends.Memory of text before after prints out = tt
 printed (ends.Disk count) of text before after prints out = of
 printed (ends.Store fault) of text before after prints out = tt
+printed (ends.Full used asked) of text before after prints out = tt
 printed (ends.NotEmpty n) of text before after prints out = tt
 
 of_command : {E T : Type 0} (v : Views E T) (command : Command) (offers : Offered) (before after : World) (run : Left E T)
@@ -237,6 +270,14 @@ of_command v (Check file) offers before after run ran none =
     no_turns run ran.no_link
     (of_end run.exit ran.end ran.exit (check_end v.disk file before.host after.host none.host ran.checks.numbers _ ran.end run.opened run.disk
     before.out after.out ran.host ran.checks.file ran.checks.out none.disk none.out))
+of_command v (Compact file) offers before after run ran none =
+    no_turns run ran.no_link
+    (of_end run.exit ran.end ran.exit (rewrite_end v.disk file before.host after.host none.host Compacts (λ s t does. does.0) ran.rewrites.done _ ran.end run.opened run.disk
+    before.out after.out ran.host ran.rewrites.file ran.rewrites.out none.disk none.out))
+of_command v (Migrate file) offers before after run ran none =
+    no_turns run ran.no_link
+    (of_end run.exit ran.end ran.exit (rewrite_end v.disk file before.host after.host none.host Migrates (λ s t does. does.0) ran.rewrites.done _ ran.end run.opened run.disk
+    before.out after.out ran.host ran.rewrites.file ran.rewrites.out none.disk none.out))
 of_command v (Help topic) offers before after run ran none =
     no_turns run ran.no_link (of_end run.exit ran.end ran.exit (printed ran.end ran.of_printing ran.text before.out after.out ran.out none.out))
 

@@ -1,5 +1,5 @@
 -- How `init` and `check` end.
-use Rattle.std.proofs.Common.{◌≡◌, ℕ, List, Option, None, Result, Err, refl, sym, ap, subst, ◌∙◌}
+use Rattle.std.proofs.Common.{◌≡◌, ℕ, List, Option, None, Result, Ok, Err, refl, sym, ap, subst, ◌∙◌}
 use Rattle.std.specs.FinMap as finite
 use Rattle.disk_core.specs.Disk.{DiskState}
 use Rattle.disk_core.specs.declared.disk.Disk.{Ghosts}
@@ -19,6 +19,9 @@ use Rattle.repo_store.specs.declared.fault.StoreFault.TheVariants as store_fault
 use Rattle.repo_top.specs.declared.check.Numbers.{Numbers}
 use Rattle.repo_top.specs.declared.file_run.FileEnd.{FileEnd}
 use Rattle.repo_top.specs.declared.file_run.FileEnd.TheVariants as ends
+use Rattle.repo_top.specs.Rewrites.{RewriteLeaves, end_of_rewrite}
+use Rattle.store_files.specs.declared.fault.RewriteFault.{RewriteFault}
+use Rattle.store_files.specs.declared.fault.RewriteFault.TheVariants as rewrites
 use Rattle.repo_top.specs.Files.{Prints, IsOfPrinting, end_of_host, handed, IsOfHost, HandsBack, end_of_init, InitLeaves, IsChecked, end_of_store, CheckLeaves}
 
 handed_none : {D : Type 0} (fault : HostFault) → handed {D = D} None (end_of_host fault) ≡ Err fault
@@ -64,6 +67,7 @@ init_done area ends.Host before after of made = absurd of
 init_done area ends.Memory before after of made = absurd of
 init_done area (ends.Disk count) before after of made = absurd of
 init_done area (ends.Store fault) before after of made = absurd of
+init_done area (ends.Full used asked) before after of made = absurd of
 init_done area (ends.NotEmpty n) before after of made = absurd of
 
 -- a file that was not made
@@ -86,6 +90,7 @@ check_done n ends.Host before after of checked = absurd of
 check_done n ends.Memory before after of checked = absurd of
 check_done n (ends.Disk count) before after of checked = absurd of
 check_done n (ends.Store fault) before after of checked = absurd of
+check_done n (ends.Full used asked) before after of checked = absurd of
 check_done n (ends.NotEmpty m) before after of checked = absurd of
 
 -- a file that was refused
@@ -106,6 +111,40 @@ check_unprinted (store_faults.Damaged place) count text s = refl
 check_unprinted (store_faults.Unsound id) count text s = refl
 check_unprinted store_faults.DiskFault count text s = refl
 check_unprinted store_faults.Memory count text s = refl
+
+-- a file that was written anew, or not
+module _ {T : Type 0} (Does : DiskState → DiskState → Result T RewriteFault → Type 0) (done : T) (before after : DiskState) where
+  pub rewrite_done : (end : FileEnd) → IsOfPrinting end → Does before after (Ok done) → RewriteLeaves Does done end before after
+  rewrite_done ends.Done of does = does
+  rewrite_done ends.Out of does = does
+  rewrite_done ends.Host of does = absurd of
+  rewrite_done ends.Memory of does = absurd of
+  rewrite_done (ends.Disk count) of does = absurd of
+  rewrite_done (ends.Store fault) of does = absurd of
+  rewrite_done (ends.Full used asked) of does = absurd of
+  rewrite_done (ends.NotEmpty n) of does = absurd of
+
+  rewrite_left : (fault : RewriteFault) (count : ℕ) → count ≡ told after.faults → Does before after (Err fault)
+      → RewriteLeaves Does done (end_of_rewrite count fault) before after
+  rewrite_left (rewrites.Full used asked) count is does = does
+  rewrite_left (rewrites.Store store_faults.NotAStore) count is does = (tt, does)
+  rewrite_left (rewrites.Store (store_faults.Version byte)) count is does = (tt, does)
+  rewrite_left (rewrites.Store (store_faults.Damaged place)) count is does = (tt, does)
+  rewrite_left (rewrites.Store (store_faults.Unsound id)) count is does = (tt, does)
+  rewrite_left (rewrites.Store store_faults.DiskFault) count is does = (does, is)
+  rewrite_left (rewrites.Store store_faults.Memory) count is does = does
+
+  pub rewrite_refused : (fault : RewriteFault) (count : ℕ) → count ≡ told after.faults → Does before after (Err fault) → (end : FileEnd)
+      → end ≡ end_of_rewrite count fault → RewriteLeaves Does done end before after
+  rewrite_refused fault count is does end end_is =
+      subst (λ (e : FileEnd). RewriteLeaves Does done e before after) (sym end_is) (rewrite_left fault count is does)
+
+unprinted : (fault : RewriteFault) (count : ℕ) (text : List ℕ) (s : SinkState) → Prints (end_of_rewrite count fault) text s s
+unprinted (rewrites.Full used asked) count text s = refl
+unprinted (rewrites.Store fault) count text s = check_unprinted fault count text s
+
+pub rewrite_unprinted : (fault : RewriteFault) (count : ℕ) (text : List ℕ) (s : SinkState) (end : FileEnd) → end ≡ end_of_rewrite count fault → Prints end text s s
+rewrite_unprinted fault count text s end is = subst (λ (e : FileEnd). Prints e text s s) (sym is) (unprinted fault count text s)
 
 -- the numbers of a journal and of the contents that it stands for are those of its file
 module _ {D : Type 0} {g : Ghosts D} (before : DiskState) (j : Journal D g) (c : Contents) (n : Numbers)

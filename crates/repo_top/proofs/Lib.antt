@@ -5,3 +5,4 @@ pub mod StartLemmas
 pub mod AnswerLemmas
 pub mod Ends
 pub mod Completeness
+pub mod Lines

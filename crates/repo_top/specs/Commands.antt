@@ -1,9 +1,10 @@
 -- What a run of each command asks of its host, leaves and prints.
-use Rattle.std.specs.Prelude.{◌≡◌, ◌⊎◌, ℕ, List, [], None}
+use Rattle.std.specs.Prelude.{◌≡◌, ◌⊎◌, ℕ, List, [], None, Result}
 use Rattle.std.specs.List.{AllByRecursion}
 use Rattle.std.specs.Option.{ForSome}
 use Rattle.base_core.specs.Causes.{Rose}
-use Rattle.command_line.specs.Command.{Command, InitCommand, Answer, Init, Check, Help, AreArgumentsOf, IsCommand}
+use Rattle.command_line.specs.Command.{Command, InitCommand, Answer, Init, Check, Compact, Migrate, Help, AreArgumentsOf, IsCommand}
+use Rattle.disk_core.specs.Disk.{DiskState}
 use Rattle.ext_ops.specs.Offered.{Offered}
 use Rattle.link_core.specs.Host.{HostState, HandsOutDisk}
 use Rattle.link_core.specs.Link.{SinkState}
@@ -15,7 +16,11 @@ use Rattle.repo_top.specs.declared.outcome.Note.{Note}
 use Rattle.repo_top.specs.declared.outcome.Note.TheVariants as notes
 use Rattle.repo_top.specs.Answer.{RanAnswer}
 use Rattle.repo_top.specs.Files.{Checks, HandsBack, InitLeaves, IsOfPrinting, Prints, handed, made_line}
+use Rattle.repo_top.specs.Rewrites.{Rewrites, migrated_line, used_line}
 use Rattle.repo_top.specs.Run.{Left, Views, exit, exit_of_file}
+use Rattle.store_files.specs.First.{Migrates}
+use Rattle.store_files.specs.Rewriting.{Compacts}
+use Rattle.store_files.specs.declared.fault.RewriteFault.{RewriteFault}
 
 -- The host, and the sink that commands print on.
 pub record World : Type 0 where
@@ -50,6 +55,15 @@ pub record RanCheck {E T : Type 0} (v : Views E T) (file : List ℕ) (before aft
   pub checks : Checks v.disk.state run.opened run.disk end before.out after.out
   pub no_link : HasNoLink run
 
+-- A run of a command that writes a file anew: it asks for the file's disk and nothing else, and prints a line.
+pub record RanRewrite {E T R : Type 0} (v : Views E T) (Does : DiskState → DiskState → Result R RewriteFault → Type 0)
+    (line : R → List ℕ) (file : List ℕ) (before after : World) (run : Left E T) : Type 0 where
+  pub end : FileEnd
+  pub exit : run.exit ≡ exit_of_file end
+  pub host : HandsOutDisk v.disk.state file before.host after.host (handed run.opened end)
+  pub rewrites : Rewrites Does v.disk.state line run.opened run.disk end before.out after.out
+  pub no_link : HasNoLink run
+
 -- A run of `--help` or `--version`: it prints a text and asks the host for nothing. No clause says what the text is.
 pub record RanHelp {E T : Type 0} (before after : World) (run : Left E T) : Type 0 where
   pub text : List ℕ
@@ -67,6 +81,8 @@ RanAs v (Answer command) offers before after run =
     RanAnswer v command offers before.host after.host run × (after.out ≡ before.out)
 RanAs v (Init command) offers before after run = RanInit v command before after run
 RanAs v (Check file) offers before after run = RanCheck v file before after run
+RanAs v (Compact file) offers before after run = RanRewrite v Compacts used_line file before after run
+RanAs v (Migrate file) offers before after run = RanRewrite v Migrates migrated_line file before after run
 RanAs v (Help topic) offers before after run = RanHelp before after run
 
 -- A run of the command that the arguments are.

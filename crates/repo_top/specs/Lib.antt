@@ -4,4 +4,5 @@ pub mod Session
 pub mod Start
 pub mod Answer
 pub mod Files
+pub mod Rewrites
 pub mod Commands

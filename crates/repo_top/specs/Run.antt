@@ -53,6 +53,7 @@ exit_of_file ends.Done = exit 0 notes.Nothing
 exit_of_file ends.Host = exit 9 notes.Host
 exit_of_file (ends.Disk count) = exit 6 (notes.Disk count)
 exit_of_file (ends.Store fault) = exit 3 (notes.Store fault)
+exit_of_file (ends.Full used asked) = exit 3 (notes.Full used asked)
 exit_of_file (ends.NotEmpty n) = exit 3 (notes.NotEmpty n)
 exit_of_file ends.Out = exit 7 notes.Out
 exit_of_file ends.Memory = exit 4 notes.Memory

@@ -87,8 +87,8 @@ fn check_on<D: Disk, S: Sink>(alloc: Global, disk: D, out: &mut S) -> (D, FileEn
     }
 }
 
-// The end of a run whose file was refused, at a disk with this count of faults.
-fn end_of_refusal(fault: StoreFault, count: u64) -> FileEnd
+/// The end of a run whose file was refused, at a disk with this count of faults.
+pub(crate) fn end_of_refusal(fault: StoreFault, count: u64) -> FileEnd
     ensures { result ≡ end_of_store count fault }
 {
     match fault {

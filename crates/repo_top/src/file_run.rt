@@ -19,6 +19,13 @@ pub enum FileEnd {
     },
     /// The file is refused for what its bytes say.
     Store(StoreFault),
+    /// The new list doesn't fit into an area of the file.
+    Full {
+        /// What an empty area has in use.
+        used: u64,
+        /// The bytes that the list takes.
+        asked: u64,
+    },
     /// The file was to be empty, and has bytes.
     NotEmpty {
         /// How many.

@@ -6,18 +6,13 @@ ghost use Rattle.link_core.specs.Host.{HandsOutDisk};
 ghost use Rattle.repo_top.specs.Files.{HandsBack, InitLeaves, IsOfPrinting, Prints, end_of_init, handed, made_line};
 
 use crate::file_run::{FileEnd, FileRun};
+use crate::line::{LINE_ROOM, put_text};
 use crate::printing::print_last;
 use disk_core::Disk;
 use itoa::write_digits;
 use journal_core::InitFault;
 use link_core::{Host, Sink};
 use std::snapshot::Snapshot;
-
-/// The room for a line: its word, the digits of a number, and a line feed.
-const LINE_ROOM: usize = 32;
-
-/// The word that begins the line, and a blank.
-const MADE: &[u8] = b"made ";
 
 /// Makes a file at the path, with areas of this length, and prints the line `made N`. It takes no memory but the host's.
 ///
@@ -93,13 +88,11 @@ fn print_made<S: Sink>(area: u64, out: &mut S) -> FileEnd
 
 // Writes the line at the end of its room, and returns where it begins.
 fn write_line(area: u64, line: &mut [u8]) -> usize
-    requires { length line.old ≡ 32 }
-    ensures start { result ≤ 32 }
+    requires { length line.old ≡ 64 }
+    ensures start { result ≤ 64 }
     ensures line { drop result line.new ≡ made_line area }
 {
-    line[LINE_ROOM - 1] = b'\n';
-    let digits = write_digits(area, line, LINE_ROOM - 1);
-    let start = digits - MADE.len();
-    line[start..digits].copy_from_slice(MADE);
-    start
+    let end = put_text(b"\n", line, LINE_ROOM);
+    let digits = write_digits(area, line, end);
+    put_text(b"made ", line, digits)
 }

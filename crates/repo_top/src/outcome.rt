@@ -51,6 +51,13 @@ pub enum Note {
     },
     /// The file of the store is refused for what its bytes say.
     Store(StoreFault),
+    /// What the file was to hold doesn't fit into one of its areas.
+    Full {
+        /// The bytes that an empty area has in use.
+        used: u64,
+        /// The bytes that the list takes.
+        asked: u64,
+    },
     /// The file that was to be made has bytes.
     NotEmpty {
         /// How many.

@@ -9,8 +9,10 @@ ghost use Rattle.repo_top.specs.Session.{HasTimesOf};
 
 use crate::answer::run_answer;
 use crate::check::check_file;
+use crate::compact::compact_at;
 use crate::file_run::{FileEnd, FileRun};
 use crate::init::make_file;
+use crate::migrate::migrate_at;
 use crate::printing::print_last;
 use crate::{Note, Ran};
 use command_line::{Arguments, ArgumentsFault, Words, arguments_of};
@@ -57,6 +59,7 @@ fn status_of_file(end: FileEnd) -> (u8, Note)
         FileEnd::Host => (9, Note::Host),
         FileEnd::Disk { count } => (6, Note::Disk { count }),
         FileEnd::Store(fault) => (3, Note::Store(fault)),
+        FileEnd::Full { used, asked } => (3, Note::Full { used, asked }),
         FileEnd::NotEmpty { length } => (3, Note::NotEmpty { length }),
         FileEnd::Out => (7, Note::Out),
         FileEnd::Memory => (4, Note::Memory),
@@ -115,15 +118,15 @@ fn print_help<D, S: Sink>(text: &str, out: &mut S) -> FileRun<D>
 /// | 9 | only if the host's count of faults rose | `Host` |
 /// | 10 | only if the file of `--accounts` is no accounts file | `File` |
 /// | 6 | only if the disk's count of faults rose | `Disk` |
-/// | 3 | exactly if the file of the store is refused for its bytes, or that of `init` has bytes | `Store`, `NotEmpty` |
+/// | 3 | exactly if the file of the store is refused for its bytes, that of `init` has bytes, or the list that `compact` or `migrate` writes doesn't fit | `Store`, `NotEmpty`, `Full` |
 /// | 7 | only if the count of faults of the link or of `out` rose | `End`, `Out` |
 /// | 4 | out of memory, outside a session's replies | `Memory` |
 /// | 0 | otherwise | `End` after a cut or a framing fault, else `Nothing` |
 ///
 /// The first whose condition holds is the status. `answer` replies to each message on the host's console, in order, over
 /// the store in the file that the arguments name, or over one that holds nothing at first and lasts as long as the session.
-/// `init` makes a file, and `check` reads one; both print on `out`, as `--help` and
-/// `--version` do.
+/// `init` makes a file, `check` reads one, `compact` writes one anew, and `migrate` brings one from format 1 to format 2;
+/// they print on `out`, as `--help` and `--version` do.
 pub fn run_plain<H: Host, S: Sink>(
     alloc: Global,
     words: &Words,
@@ -165,6 +168,8 @@ where
             ran_file(make_file(arguments.file, arguments.area, host, out))
         }
         Arguments::Check(arguments) => ran_file(check_file(alloc, arguments.file, host, out)),
+        Arguments::Compact(arguments) => ran_file(compact_at(alloc, arguments.file, host, out)),
+        Arguments::Migrate(arguments) => ran_file(migrate_at(alloc, arguments.file, host, out)),
         Arguments::Help(help) => ran_file(print_help(&help.text, out)),
     }
 }

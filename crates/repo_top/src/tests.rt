@@ -50,6 +50,7 @@ fn word(note: &Note) -> &'static str {
         Note::File { .. } => "file",
         Note::Disk { .. } => "disk",
         Note::Store(_) => "store",
+        Note::Full { .. } => "full",
         Note::NotEmpty { .. } => "not empty",
         Note::Out => "out",
         Note::Memory => "memory",

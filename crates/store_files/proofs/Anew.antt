@@ -1,5 +1,5 @@
 -- Contents that are written anew: what a crash may leave, whatever the format of the old list.
-use Rattle.std.proofs.Common.{◌≡◌, ◌⊎◌, inl, inr, ⊎_elim, ℕ, ◌≤◌, List, Option, Some, IsSome, refl, sym, ap, ◌∙◌, subst, arith}
+use Rattle.std.proofs.Common.{◌≡◌, ◌⊎◌, inl, inr, ⊎_elim, ℕ, List, Some, IsSome, sym, subst}
 use Rattle.std.specs.Option.{ForSome}
 use Rattle.disk_core.specs.Disk.{DiskState, IsSettled, Same}
 use Rattle.disk_core.specs.Runs.{LeavesAlone, LeavesOnly}
@@ -12,7 +12,7 @@ use Rattle.journal_core.specs.declared.layout.Format.TheVariants.{Second}
 use Rattle.journal_core.specs.declared.records.Record.{Record}
 use Rattle.record_core.specs.declared.format.Format.TheVariants as bodies
 use Rattle.repo_state.specs.Compacted.{compacted}
-use Rattle.repo_state.specs.Contents.{Contents, replay}
+use Rattle.repo_state.specs.Contents.{replay}
 use Rattle.repo_state.specs.Recorded.{AreRecordsOf}
 use Rattle.repo_state.specs.Sound.{IsConsistent}
 use Rattle.store_files.specs.Rewriting.{Rewriting, HoldsAnew, IsShortest}

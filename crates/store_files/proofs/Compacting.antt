@@ -1,15 +1,15 @@
 -- A file that is compacted, exit by exit.
-use Rattle.std.proofs.Common.{◌≡◌, ◌⊎◌, inl, inr, ⊎_elim, ℕ, ◌+◌, ◌-◌, ◌^◌, ◌≤◌, min, List, Option, Some, IsSome, Result, Ok, Err, refl, sym, ap, ◌∙◌, subst, arith}
+use Rattle.std.proofs.Common.{◌≡◌, ◌⊎◌, inl, inr, ⊎_elim, ℕ, List, Result, Ok, Err, refl, sym, ap, ◌∙◌, subst, arith}
 use Rattle.std.specs.Option.{ForSome}
 use Rattle.base_core.specs.Causes.{Rose}
-use Rattle.disk_core.specs.Disk.{DiskState, IsSettled}
+use Rattle.disk_core.specs.Disk.{DiskState}
 use Rattle.disk_core.specs.Runs.{LeavesAlone}
 use Rattle.disk_core.specs.declared.disk.Disk.{Ghosts}
 use Rattle.disk_core.proofs.RunLaws.{reported}
 use Rattle.journal_core.specs.Compact as journals
 use Rattle.journal_core.specs.File.{HoldsAt}
-use Rattle.journal_core.specs.Journal.{disk_of, state_of, area_of, side_of, used_of, room_for, told, Keeps}
-use Rattle.journal_core.specs.Turn.{IsTooLong, other_side, turned}
+use Rattle.journal_core.specs.Journal.{disk_of, state_of, area_of, side_of, used_of, room_for, told}
+use Rattle.journal_core.specs.Turn.{IsTooLong, turned}
 use Rattle.journal_core.specs.declared.journal.CommitFault.{CommitFault}
 use Rattle.journal_core.specs.declared.journal.CommitFault.TheVariants.{Full, DiskFault}
 use Rattle.journal_core.specs.declared.journal.Journal.{Journal}
@@ -21,12 +21,11 @@ use Rattle.repo_state.specs.Compacted.{compacted}
 use Rattle.repo_state.specs.Contents.{Contents, replay}
 use Rattle.repo_state.specs.Recorded.{AreRecordsOf}
 use Rattle.repo_state.specs.Sound.{IsConsistent}
-use Rattle.repo_store.specs.Opening.{IsStoreCause, IsRefusedFor, OpensFile}
+use Rattle.repo_store.specs.Opening.{IsRefusedFor, OpensFile}
 use Rattle.repo_store.specs.declared.fault.StoreFault.{StoreFault}
 use Rattle.repo_store.specs.declared.fault.StoreFault.TheVariants as stores
-use Rattle.store_files.specs.declared.fault.RewriteFault.{RewriteFault}
 use Rattle.store_files.specs.declared.fault.RewriteFault.TheVariants as faults
-use Rattle.store_files.specs.Rewriting.{Rewriting, Compacts, GivesContents, HoldsAnew, IsAnew, IsNotAnew, IsShortest, LacksRoom, WritesAnew, room_of}
+use Rattle.store_files.specs.Rewriting.{Rewriting, Compacts, GivesContents, IsAnew, IsShortest, LacksRoom, WritesAnew, room_of}
 use Rattle.store_files.proofs.Anew.{crash, shortest}
 
 -- a file that an opening refuses

@@ -1,10 +1,10 @@
 -- A file of format 1 that is brought over, exit by exit.
-use Rattle.std.proofs.Common.{◌≡◌, ◌≢◌, ◌⊎◌, inl, inr, ⊎_elim, ℕ, ◌+◌, ◌-◌, ◌^◌, ◌≤◌, ◌<◌, min, Bool, true, false, List, length, take, slice_get, Option, Some, IsSome, None, Result, Ok, Err, if◌then◌else◌, nat_eq, refl, sym, ap, ◌∙◌, subst, arith}
+use Rattle.std.proofs.Common.{◌≡◌, inl, inr, ⊎_elim, ℕ, ◌≤◌, ◌<◌, Bool, true, false, List, length, Some, IsSome, Result, Ok, Err, if◌then◌else◌, nat_eq, refl, sym, ap, ◌∙◌, subst, arith}
 use Rattle.std.specs.FinMap as finite
 use Rattle.std.specs.Option.{ForSome}
 use Rattle.std.proofs.lemmas.Option.{slice_get_within}
 use Rattle.base_core.specs.Causes.{Rose}
-use Rattle.disk_core.specs.Disk.{DiskState, IsSettled}
+use Rattle.disk_core.specs.Disk.{DiskState}
 use Rattle.disk_core.specs.Runs.{LeavesAlone}
 use Rattle.disk_core.specs.declared.disk.Disk.{Ghosts}
 use Rattle.disk_core.proofs.RunLaws.{reported}
@@ -12,10 +12,10 @@ use Rattle.std.proofs.lemmas.Bool.{eqb-true, eq-eqb}
 use Rattle.journal_core.specs.File.{HoldsAt, HasVersion}
 use Rattle.journal_core.specs.First.{OpensFirst, Migrates, IsNotMigrated, SurvivesMigration, first_disk, first_state, first_area, first_side}
 use Rattle.journal_core.specs.First as journals
-use Rattle.journal_core.specs.Journal.{disk_of, state_of, area_of, side_of, room_for, told}
+use Rattle.journal_core.specs.Journal.{disk_of, state_of, side_of, room_for, told}
 use Rattle.journal_core.specs.Layout.{most_number}
 use Rattle.journal_core.specs.Open.{IsRefused}
-use Rattle.journal_core.specs.Turn.{IsTooLong, other_side, turned}
+use Rattle.journal_core.specs.Turn.{IsTooLong, turned}
 use Rattle.journal_core.specs.declared.first.FirstJournal.{FirstJournal}
 use Rattle.journal_core.specs.declared.journal.CommitFault.{CommitFault}
 use Rattle.journal_core.specs.declared.journal.CommitFault.TheVariants.{Full, DiskFault}
@@ -36,13 +36,11 @@ use Rattle.repo_state.specs.declared.replay.ReplayFault.TheVariants as replays
 use Rattle.repo_store.specs.Opening.{IsInside}
 use Rattle.repo_store.specs.declared.fault.StoreFault.{StoreFault}
 use Rattle.repo_store.specs.declared.fault.StoreFault.TheVariants as stores
-use Rattle.store_files.specs.declared.fault.RewriteFault.{RewriteFault}
 use Rattle.store_files.specs.declared.fault.RewriteFault.TheVariants as faults
-use Rattle.store_files.specs.declared.migration.Migration.{Migration}
 use Rattle.store_files.specs.declared.migration.Migration.TheVariants.{Done, Already}
 use Rattle.store_files.specs.First.{GivesInFirst, IsFirstCause, IsGiven, fault_of_replay, unread}
 use Rattle.store_files.specs.First as files
-use Rattle.store_files.specs.Rewriting.{Rewriting, IsAnew, IsShortest, LacksRoom, WritesAnew}
+use Rattle.store_files.specs.Rewriting.{Rewriting, IsAnew, IsShortest, WritesAnew}
 use Rattle.store_files.proofs.Anew.{crash, shortest}
 
 abbrev Replays : List Record → Result Held ReplayFault → Type 0

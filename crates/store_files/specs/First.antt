@@ -1,5 +1,5 @@
 -- What bringing a file of format 1 over to format 2 does. This project's own.
-use Rattle.std.specs.Prelude.{◌≡◌, ◌≢◌, ◌⊎◌, ◌<◌, ◌≤◌, ◌+◌, ℕ, List, length, take, None, Some, Result, Ok, Err, if◌then◌else◌, nat_eq}
+use Rattle.std.specs.Prelude.{◌≡◌, ◌≢◌, ◌⊎◌, ◌+◌, ℕ, List, length, take, None, Some, Result, Ok, Err, if◌then◌else◌, nat_eq}
 use Rattle.std.specs.FinMap as finite
 use Rattle.std.specs.Option.{ForSome}
 use Rattle.disk_core.specs.Disk.{DiskState}

@@ -46,7 +46,10 @@ fn compact_journal<D: Disk>(
     table.counter();
     let mut journal = journal;
     let Ok(records) = table.records() else {
-        return (journal.into_disk(), Err(RewriteFault::Store(StoreFault::Memory)));
+        return (
+            journal.into_disk(),
+            Err(RewriteFault::Store(StoreFault::Memory)),
+        );
     };
     match journal.compact(&records) {
         Ok(_) => {
@@ -57,7 +60,10 @@ fn compact_journal<D: Disk>(
             (journal.into_disk(), Err(RewriteFault::Full { used, asked }))
         }
         Err(CommitFault::DiskFault) => {
-            (journal.into_disk(), Err(RewriteFault::Store(StoreFault::DiskFault)))
+            (
+                journal.into_disk(),
+                Err(RewriteFault::Store(StoreFault::DiskFault)),
+            )
         }
     }
 }

@@ -9,8 +9,6 @@ mod compaction;
 mod fault;
 mod migration;
 mod place;
-//M #[cfg(test)]
-//M mod tests;
 
 pub use compaction::compact_file;
 pub use fault::RewriteFault;

@@ -80,7 +80,10 @@ fn migrate_records<D: Disk>(
     };
     table.counter();
     let Ok(list) = table.records() else {
-        return (journal.into_disk(), Err(RewriteFault::Store(StoreFault::Memory)));
+        return (
+            journal.into_disk(),
+            Err(RewriteFault::Store(StoreFault::Memory)),
+        );
     };
     let objects = table.count();
     match journal.migrate(&list) {

@@ -1,7 +1,9 @@
-//! `init` and `check` over memory.
+//! `init`, `check`, `compact` and `migrate` over memory.
 use crate::check::check_file;
+use crate::compact::compact_at;
 use crate::file_run::FileEnd;
 use crate::init::make_file;
+use crate::migrate::migrate_at;
 use disk_core::MemoryDisk;
 use doip_json::Bytes;
 use link_core::{MemoryHost, MemorySink, Script};
@@ -30,6 +32,7 @@ fn word(end: &FileEnd) -> &'static str {
         FileEnd::Done => "done",
         FileEnd::Out => "out",
         FileEnd::NotEmpty { length: 34 } => "34 bytes",
+        FileEnd::Full { used: 2, asked: 66 } => "full",
         FileEnd::Store(StoreFault::NotAStore) => "no store",
         FileEnd::Store(StoreFault::Version { byte: 7 }) => "version 7",
         FileEnd::Store(StoreFault::Damaged { place: 33 }) => "damaged at 33",
@@ -114,5 +117,81 @@ fn other_bytes_of_a_store_are_refused(rt: HostRuntime) -> Result<(), Fail> {
     assert!(rt; checks(alloc, &other, "version 7", "")?);
     let open = new_file(alloc, b"\x02\x01\x01")?;
     assert!(rt; checks(alloc, &open, "damaged at 33", "")?);
+    Ok(())
+}
+
+// The file of a run, or none.
+fn file_of(alloc: Global, disk: &Option<MemoryDisk>) -> Result<Vec<u8>, AllocError> {
+    match disk {
+        Some(disk) => Vec::from_slice(alloc, disk.file()),
+        None => Ok(Vec::new(alloc)),
+    }
+}
+
+// The file that `compact` leaves, if it ends so and prints this text, else none.
+fn compacted(alloc: Global, file: &[u8], end: &str, text: &str) -> Result<Vec<u8>, AllocError> {
+    let mut host = host_with(alloc, file)?;
+    let mut out = MemorySink::new(alloc, Script::free(alloc));
+    let run = compact_at(alloc, "s", &mut host, &mut out);
+    if word(&run.end) == end && out.written() == text.as_bytes() {
+        return file_of(alloc, &run.disk);
+    }
+    Ok(Vec::new(alloc))
+}
+
+// The same of `migrate`.
+fn migrated(alloc: Global, file: &[u8], end: &str, text: &str) -> Result<Vec<u8>, AllocError> {
+    let mut host = host_with(alloc, file)?;
+    let mut out = MemorySink::new(alloc, Script::free(alloc));
+    let run = migrate_at(alloc, "s", &mut host, &mut out);
+    if word(&run.end) == end && out.written() == text.as_bytes() {
+        return file_of(alloc, &run.disk);
+    }
+    Ok(Vec::new(alloc))
+}
+
+#[test]
+fn a_new_file_is_compacted_to_its_counter(rt: HostRuntime) -> Result<(), Fail> {
+    let alloc = rt.alloc();
+    let new = new_file(alloc, b"\x02\0")?;
+    let after = compacted(alloc, &new, "done", "used 67 of 224\n")?;
+    let lines = "objects 0\ncounter 1\nused 67 of 224\nside 1\nnumber 0\n";
+    assert!(rt; checks(alloc, &after, "done", lines)?);
+    Ok(())
+}
+
+// An area of 66 bytes has no room for a counter's record, the version byte and a gate.
+#[test]
+fn a_list_that_does_not_fit_is_refused(rt: HostRuntime) -> Result<(), Fail> {
+    let alloc = rt.alloc();
+    let mut small = new_file(alloc, b"\x02\0")?;
+    small[15] = 66;
+    assert!(rt; compacted(alloc, &small, "full", "")? == small);
+    small[32] = 1;
+    assert!(rt; migrated(alloc, &small, "full", "")? == small);
+    Ok(())
+}
+
+#[test]
+fn a_file_of_format_1_is_brought_over_once(rt: HostRuntime) -> Result<(), Fail> {
+    let alloc = rt.alloc();
+    let old = new_file(alloc, b"\x01\0")?;
+    let after = migrated(alloc, &old, "done", "migrated 0\n")?;
+    let lines = "objects 0\ncounter 1\nused 67 of 224\nside 1\nnumber 1\n";
+    assert!(rt; checks(alloc, &after, "done", lines)?);
+    assert!(rt; migrated(alloc, &after, "done", "already 2\n")? == after);
+    Ok(())
+}
+
+#[test]
+fn what_is_no_store_is_not_written_anew(rt: HostRuntime) -> Result<(), Fail> {
+    let alloc = rt.alloc();
+    let other = new_file(alloc, b"\x07\0")?;
+    assert!(rt; compacted(alloc, &other, "version 7", "")? == other);
+    assert!(rt; migrated(alloc, &other, "version 7", "")? == other);
+    let open = new_file(alloc, b"\x02\x01\x01")?;
+    assert!(rt; compacted(alloc, &open, "damaged at 33", "")? == open);
+    let first = new_file(alloc, b"\x01\x01\x01")?;
+    assert!(rt; migrated(alloc, &first, "damaged at 33", "")? == first);
     Ok(())
 }

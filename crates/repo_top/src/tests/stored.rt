@@ -7,6 +7,10 @@ use link_core::CallKind;
 const CREATE: &str =
     "{\"authentication\":{\"password\":\"bc\",\"username\":\"admin\"},\"input\":{\"type\":\"0.TYPE/DO\"},\"operationId\":\"0.DOIP/Op.Create\",\"targetId\":\"35.TEST/svc\"}\n#\n#\n";
 
+// A Delete of that object.
+const DELETE: &str =
+    "{\"authentication\":{\"password\":\"bc\",\"username\":\"admin\"},\"operationId\":\"0.DOIP/Op.Delete\",\"targetId\":\"35.TEST/1\"}\n#\n#\n";
+
 // What a Create replies, before and after the number of the identifier.
 const CREATED: &str =
     "{\"output\":{\"attributes\":{\"metadata\":{\"createdBy\":\"admin\",\"createdOn\":0,\"modifiedBy\":\"admin\",\"modifiedOn\":0,\"revision\":1}},\"id\":\"35.TEST/";
@@ -108,5 +112,25 @@ fn a_file_that_is_not_opened_has_no_session(rt: HostRuntime) -> Result<(), Fail>
     host.fail(CallKind::DiskOpen, 1)?;
     let ran = run_over(alloc, ANSWER, &mut host)?;
     assert!(rt; ran.status == 9 && ran.note == "host");
+    Ok(())
+}
+
+// Two objects are deleted, and then the list is their counter alone.
+#[test]
+fn deleted_objects_leave_a_compacted_file(rt: HostRuntime) -> Result<(), Fail> {
+    let alloc = rt.alloc();
+    let file = made(alloc, "init s --area 1000")?;
+    let mut host = MemoryHost::new(alloc);
+    host.add_file("a", Bytes::of(alloc, ACCOUNTS.as_bytes())?)?;
+    host.add_file("s", Bytes::of(alloc, &file)?)?;
+    let both = joined(alloc, CREATE.as_bytes(), DELETE.as_bytes())?;
+    host.add_console(MemoryLink::of(alloc, &both)?)?;
+    let ran = run_over(alloc, ANSWER, &mut host)?;
+    let lines = b"objects 0\ncounter 2\nused 292 of 1000\nside 0\nnumber 2\n";
+    assert!(rt; checked(alloc, &ran.file)?.as_slice() == lines.as_slice());
+    let ran = run_over(alloc, "compact s", &mut host_of(alloc, &ran.file)?)?;
+    assert!(rt; ran.status == 0 && ran.printed.as_slice() == b"used 67 of 1000\n".as_slice());
+    let lines = b"objects 0\ncounter 2\nused 67 of 1000\nside 1\nnumber 2\n";
+    assert!(rt; checked(alloc, &ran.file)?.as_slice() == lines.as_slice());
     Ok(())
 }
