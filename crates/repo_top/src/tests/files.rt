@@ -18,12 +18,18 @@ fn host_with(alloc: Global, file: &[u8]) -> Result<MemoryHost, AllocError> {
     Ok(host)
 }
 
-// A new file with areas of 224 bytes, and then these bytes.
-fn new_file(alloc: Global, more: &[u8]) -> Result<Vec<u8>, AllocError> {
-    let mut file = Vec::from_slice(alloc, b"DOIPREP1\0\0\0\0\0\0\0\xe0")?;
+// A new file with areas of so many bytes, and then these bytes.
+fn file_with(alloc: Global, area: u8, more: &[u8]) -> Result<Vec<u8>, AllocError> {
+    let mut file = Vec::from_slice(alloc, b"DOIPREP1\0\0\0\0\0\0\0")?;
+    file.push(area)?;
     file.extend_from_slice(&[0; 16])?;
     file.extend_from_slice(more)?;
     Ok(file)
+}
+
+// The same with areas of 224 bytes.
+fn new_file(alloc: Global, more: &[u8]) -> Result<Vec<u8>, AllocError> {
+    file_with(alloc, 224, more)
 }
 
 // The end, as a word.
@@ -164,11 +170,10 @@ fn a_new_file_is_compacted_to_its_counter(rt: HostRuntime) -> Result<(), Fail> {
 #[test]
 fn a_list_that_does_not_fit_is_refused(rt: HostRuntime) -> Result<(), Fail> {
     let alloc = rt.alloc();
-    let mut small = new_file(alloc, b"\x02\0")?;
-    small[15] = 66;
+    let small = file_with(alloc, 66, b"\x02\0")?;
     assert!(rt; compacted(alloc, &small, "full", "")? == small);
-    small[32] = 1;
-    assert!(rt; migrated(alloc, &small, "full", "")? == small);
+    let first = file_with(alloc, 66, b"\x01\0")?;
+    assert!(rt; migrated(alloc, &first, "full", "")? == first);
     Ok(())
 }
 
